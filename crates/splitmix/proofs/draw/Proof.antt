@@ -1,0 +1,16 @@
+-- `draw` meets its promise: its steps are the rule's, and the one remainder that is taken early changes no sum modulo 2^64.
+-- Assumes nothing.
+use borrow.Author.Needs.{needs}
+use native.Mathlib.Nat.{add-mod-mod}
+use Rattle.splitmix.specs.Generator.{output}
+use Rattle.splitmix.proofs.draw.Statement.{statement}
+use Rattle.splitmix.proofs.draw.Tie as tie
+
+returns : tie.Need-returns
+unfolding output
+returns c = rw (← add-mod-mod) (cc)
+
+pub draw-spec : {M : Type 1} → statement M
+draw-spec =
+    tie.close
+    (tie.spec (λ c κs. search needs) (λ c κs. search needs) (λ c κs. search needs) (λ c κs. search needs) returns)

@@ -1,0 +1,15 @@
+-- Document 01, "Finding a key", its first paragraph: output n of SplitMix64 started at k. The numbers are natural numbers,
+-- so "modulo 2^64" is written wherever the document writes it, and _/_ drops the remainder.
+use Prim.Native.Nat.{ℕ, _+_, _*_, _/_, _%_, _^_}
+use lib.Bits.{bitXor}
+
+-- (z xor z/2^s) * c modulo 2^64
+unfoldable pub mixed : ℕ → ℕ → ℕ → ℕ
+mixed s c z = bitXor z (z / 2 ^ s) * c % 2 ^ 64
+
+unfoldable pub output : ℕ → ℕ → ℕ
+output n k =
+    let z₁ = (k + n * 0x9e3779b97f4a7c15) % 2 ^ 64 in
+    let z₂ = mixed 30 0xbf58476d1ce4e5b9 z₁ in
+    let z₃ = mixed 27 0x94d049bb133111eb z₂ in
+    bitXor z₃ (z₃ / 2 ^ 31)

@@ -1,0 +1,2 @@
+-- What the promises of the crate cite.
+pub mod Generator
