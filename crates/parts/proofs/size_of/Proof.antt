@@ -1,0 +1,34 @@
+-- `parts::size_of` meets its contract: its tests are those of `legal`, one after the other.
+-- Assumes nothing.
+use native.Mathlib.Omega.{arith}
+use borrow.Author.Needs.{needs}
+use borrow.Author.Tests.{lt-leb, le-leb, eq-eqb, ne-eqb}
+use Rattle.parts.specs.Shape.{sizeOf}
+use Rattle.parts.proofs.size_of.Statement.{statement}
+use Rattle.parts.proofs.size_of.Tie as tie
+
+returns : tie.Need-returns
+unfolding sizeOf
+returns c = simp (lt-leb _ _ (c .if1 .taken))
+
+cast-a : tie.Need-cast-a
+cast-a c = omega (arith, c .shared-slice-known .given 0)
+
+returns-2 : tie.Need-returns-2
+unfolding sizeOf
+returns-2 c = simp (le-leb _ _ (c .before .before .if1 .left), lt-leb _ _ (c .if2 .taken))
+
+returns-3 : tie.Need-returns-3
+unfolding sizeOf
+returns-3 c = simp (le-leb _ _ (c .before .before .before .if1 .left), le-leb _ _ (c .before .if2 .left), lt-leb _ _ (c .if3 .taken))
+
+returns-4 : tie.Need-returns-4
+unfolding sizeOf
+returns-4 c = simp (le-leb _ _ (c .before .before .before .before .if1 .left), le-leb _ _ (c .before .before .if2 .left), le-leb _ _ (c .before .if3 .left), eq-eqb _ _ (c .if4 .taken))
+
+returns-5 : tie.Need-returns-5
+unfolding sizeOf
+returns-5 c = simp (le-leb _ _ (c .before .before .before .before .if1 .left), le-leb _ _ (c .before .before .if2 .left), le-leb _ _ (c .before .if3 .left), ne-eqb _ _ (c .if4 .left))
+
+pub size-of-spec : {M : Type 1} → statement M
+size-of-spec = tie.close (tie.spec returns (λ c. search needs) cast-a returns-2 returns-3 (λ c. search needs) (λ c. search needs) returns-4 returns-5)

@@ -1,0 +1,24 @@
+-- A run's shape, as the functions that work on its parts ask for it.
+use mathlib.Core.Path.{_≡_}
+use mathlib.Core.Bool.{cond}
+use mathlib.Core.List.{List}
+use Prim.Native.Nat.{ℕ, _+_, _<_, _≤_}
+use lib.ListN.{length}
+use Rattle.rules.specs.Table.{_!_, base, runLength, mostSeats, legal}
+use Rattle.parts.specs.declared.Size.{Size}
+use Rattle.parts.specs.declared.Size.the-variants.{Seats, Illegal}
+
+-- a run's seats, where its shape is legal
+unfoldable pub sizeOf : List ℕ → Size
+sizeOf w = cond (legal w) (Seats (w ! 0)) Illegal
+
+-- a run for a seats
+pub record Shape (w : List ℕ) (a : ℕ) : Type 0 where
+  pub first : w ! 0 ≡ a
+  pub size : length w ≡ runLength a
+  pub most : a ≤ mostSeats
+
+-- place i of part k, where the part ends within the run
+pub record Lent (w : List ℕ) (a k i : ℕ) : Type 0 where
+  pub fits : base a k + a ≤ length w
+  pub below : i < a

@@ -1,0 +1,188 @@
+// The parts of a lent run: its shape, and reads and stores in each part, with seats and positions kept apart.
+ghost use mathlib.Core.Path.{_≡_};
+ghost use Prim.Native.Nat.{_+_, _<_};
+ghost use lib.ListN.{length, set};
+ghost use Rattle.rules.specs.Table.{_!_, base, part, tableOf};
+ghost use Rattle.parts.specs.Shape.{sizeOf, Shape, Lent};
+use rules::Position;
+use rules::Seat;
+
+pub const MOST_SEATS: usize = 2048;
+
+// The number of each part, in its order.
+const A: usize = 0;
+
+const K: usize = 1;
+
+const W: usize = 2;
+
+const L: usize = 3;
+
+const R: usize = 4;
+
+const S: usize = 5;
+
+pub enum Size {
+    Seats(usize),
+    Illegal,
+}
+
+// The seats of a run, where its shape is legal.
+pub fn size_of(t: &[u32]) -> Size
+    ensures { λ r. ⌜ r ≡ sizeOf (now (t .entry)) ⌝ }
+{
+    if t.len() < 2 {
+        return Size::Illegal;
+    }
+    let a = t[0] as usize;
+    if a < 1 {
+        return Size::Illegal;
+    }
+    if MOST_SEATS < a {
+        return Size::Illegal;
+    }
+    if t.len() == 2 + 6 * a {
+        Size::Seats(a)
+    } else {
+        Size::Illegal
+    }
+}
+
+fn word_at(part: &[u32], i: usize) -> u32
+    requires { ⌜ i < length (now part) ⌝ }
+    ensures { λ r. ⌜ r ≡ now (part .entry) ! i ⌝ }
+{
+    part[i]
+}
+
+fn put_at(part: &mut [u32], i: usize, v: u32)
+    requires { ⌜ i < length (now part) ⌝ }
+    ensures { λ _. ⌜ now (part .exit) ≡ set (now (part .entry)) i v ⌝ }
+{
+    part[i] = v;
+}
+
+// Word i of part k.
+fn word(t: &[u32], a: usize, k: usize, i: usize) -> u32
+    requires { ⌜ (Shape (now t) a) × (Lent (now t) a k i) ⌝ }
+    ensures { λ r. ⌜ r ≡ part (now (t .entry) ! 0) k (now (t .entry)) ! i ⌝ }
+{
+    let lo = 2 + k * a;
+    word_at(&t[lo..lo + a], i)
+}
+
+// Word i of part k becomes v.
+fn put(t: &mut [u32], a: usize, k: usize, i: usize, v: u32)
+    requires { ⌜ Lent (now t) a k i ⌝ }
+    ensures { λ _. ⌜ now (t .exit) ≡ set (now (t .entry)) (base a k + i) v ⌝ }
+{
+    let lo = 2 + k * a;
+    put_at(&mut t[lo..lo + a], i, v);
+}
+
+// Where a seat stands in the line of all a seats, and who stands at a position of it: b at b. Opening writes this
+// line, the audit starts from it, and a key's first draw falls on it.
+pub fn first_place(b: Seat) -> Position
+    ensures { λ r. ⌜ r .0 ≡ b .0 ⌝ }
+{
+    Position(b.0)
+}
+
+pub fn first_seat(p: Position) -> Seat
+    ensures { λ r. ⌜ r .0 ≡ p .0 ⌝ }
+{
+    Seat(p.0)
+}
+
+// The reads.
+pub fn get_a(t: &[u32], a: usize, b: Seat) -> u32
+    requires { ⌜ (Shape (now t) a) × (b .0 < a) ⌝ }
+    ensures { λ r. ⌜ r ≡ tableOf (now (t .entry)) .bare .A ! (b .0) ⌝ }
+{
+    word(t, a, A, b.0 as usize)
+}
+
+pub fn get_k(t: &[u32], a: usize, b: Seat) -> Seat
+    requires { ⌜ (Shape (now t) a) × (b .0 < a) ⌝ }
+    ensures { λ r. ⌜ r .0 ≡ tableOf (now (t .entry)) .bare .K ! (b .0) ⌝ }
+{
+    Seat(word(t, a, K, b.0 as usize))
+}
+
+pub fn get_w(t: &[u32], a: usize, p: Position) -> Seat
+    requires { ⌜ (Shape (now t) a) × (p .0 < a) ⌝ }
+    ensures { λ r. ⌜ r .0 ≡ tableOf (now (t .entry)) .bare .W ! (p .0) ⌝ }
+{
+    Seat(word(t, a, W, p.0 as usize))
+}
+
+pub fn get_l(t: &[u32], a: usize, b: Seat) -> Position
+    requires { ⌜ (Shape (now t) a) × (b .0 < a) ⌝ }
+    ensures { λ r. ⌜ r .0 ≡ tableOf (now (t .entry)) .bare .L ! (b .0) ⌝ }
+{
+    Position(word(t, a, L, b.0 as usize))
+}
+
+pub fn get_r(t: &[u32], a: usize, i: usize) -> Seat
+    requires { ⌜ (Shape (now t) a) × (i < a) ⌝ }
+    ensures { λ r. ⌜ r .0 ≡ tableOf (now (t .entry)) .bare .R ! i ⌝ }
+{
+    Seat(word(t, a, R, i))
+}
+
+pub fn get_s(t: &[u32], a: usize, b: Seat) -> u32
+    requires { ⌜ (Shape (now t) a) × (b .0 < a) ⌝ }
+    ensures { λ r. ⌜ r ≡ tableOf (now (t .entry)) .S ! (b .0) ⌝ }
+{
+    word(t, a, S, b.0 as usize)
+}
+
+// The stores.
+pub fn set_n(t: &mut [u32], n: u32)
+    requires { ⌜ 1 < length (now t) ⌝ }
+    ensures { λ _. ⌜ now (t .exit) ≡ set (now (t .entry)) 1 n ⌝ }
+{
+    t[1] = n;
+}
+
+pub fn set_a(t: &mut [u32], a: usize, b: Seat, x: u32)
+    requires { ⌜ Lent (now t) a 0 (b .0) ⌝ }
+    ensures { λ _. ⌜ now (t .exit) ≡ set (now (t .entry)) (base a 0 + b .0) x ⌝ }
+{
+    put(t, a, A, b.0 as usize, x);
+}
+
+pub fn set_k(t: &mut [u32], a: usize, b: Seat, x: Seat)
+    requires { ⌜ Lent (now t) a 1 (b .0) ⌝ }
+    ensures { λ _. ⌜ now (t .exit) ≡ set (now (t .entry)) (base a 1 + b .0) (x .0) ⌝ }
+{
+    put(t, a, K, b.0 as usize, x.0);
+}
+
+pub fn set_w(t: &mut [u32], a: usize, p: Position, x: Seat)
+    requires { ⌜ Lent (now t) a 2 (p .0) ⌝ }
+    ensures { λ _. ⌜ now (t .exit) ≡ set (now (t .entry)) (base a 2 + p .0) (x .0) ⌝ }
+{
+    put(t, a, W, p.0 as usize, x.0);
+}
+
+pub fn set_l(t: &mut [u32], a: usize, b: Seat, x: Position)
+    requires { ⌜ Lent (now t) a 3 (b .0) ⌝ }
+    ensures { λ _. ⌜ now (t .exit) ≡ set (now (t .entry)) (base a 3 + b .0) (x .0) ⌝ }
+{
+    put(t, a, L, b.0 as usize, x.0);
+}
+
+pub fn set_r(t: &mut [u32], a: usize, i: usize, x: Seat)
+    requires { ⌜ Lent (now t) a 4 i ⌝ }
+    ensures { λ _. ⌜ now (t .exit) ≡ set (now (t .entry)) (base a 4 + i) (x .0) ⌝ }
+{
+    put(t, a, R, i, x.0);
+}
+
+pub fn set_s(t: &mut [u32], a: usize, b: Seat, x: u32)
+    requires { ⌜ Lent (now t) a 5 (b .0) ⌝ }
+    ensures { λ _. ⌜ now (t .exit) ≡ set (now (t .entry)) (base a 5 + b .0) x ⌝ }
+{
+    put(t, a, S, b.0 as usize, x);
+}

@@ -1,0 +1,76 @@
+-- A part of a run that is lent and comes back; a run made of parts of one length.
+-- Assumes nothing.
+use mathlib.Core.Path.{_≡_, refl, sym, ap, ap₂, _∙_}
+use mathlib.Core.List.{List, [], _∷_, _++_}
+use Prim.Native.Nat.{ℕ, zero, suc, _+_, _*_, _-_, _<_, _≤_}
+use native.Mathlib.Nat.{suc-mul, zero-mul, suc-add, zero-add}
+use native.Mathlib.Omega.{arith}
+use lib.ListN.{length, take, drop, getD, set, length-append, length-take, length-drop, length-set, take-append-drop, List·getD-append}
+use lib.Seq.{getD-append-add, set-append-left, length-take-le, take-at, drop-append-add}
+use Rattle.rules.specs.Table.{_!_, joined}
+
+-- a store past the first list
+pub set-append-add : (xs ys : List ℕ) (n v : ℕ) → set (xs ++ ys) (length xs + n) v ≡ xs ++ set ys n v
+set-append-add [] ys n v = rw zero-add refl
+set-append-add (x ∷ xs) ys n v = rw suc-add (ap (λ (l : List ℕ). x ∷ l) (set-append-add xs ys n v))
+
+-- a store into a part, said of the whole
+part-set : (w : List ℕ) (lo k i v : ℕ) → i < k → lo + k ≤ length w
+    → take lo w ++ (set (take k (drop lo w)) i v ++ drop k (drop lo w)) ≡ set w (lo + i) v
+part-set w lo k i v hi hk =
+    ap (λ (l : List ℕ). take lo w ++ l)
+    (sym (set-append-left (take k (drop lo w)) (drop k (drop lo w)) i v (simp (length-take, length-drop) (omega arith)))
+    ∙ ap (λ (l : List ℕ). set l i v) (take-append-drop k (drop lo w)))
+    ∙ sym (set-append-add (take lo w) (drop lo w) i v)
+    ∙ ap₂ (λ (l : List ℕ) (n : ℕ). set l (n + i) v) (take-append-drop lo w) (length-take-le lo w (omega arith))
+
+-- the same, as a function that lends `&mut t[lo..lo + a]` to a store finds it
+pub part-put : (w ys : List ℕ) (lo a i v : ℕ) → ys ≡ set (take (lo + a - lo) (drop lo w)) i v → i < a → lo + a ≤ length w
+    → take lo w ++ (ys ++ drop (lo + a - lo) (drop lo w)) ≡ set w (lo + i) v
+part-put w ys lo a i v e hi hk =
+    ap (λ (l : List ℕ). take lo w ++ (l ++ drop (lo + a - lo) (drop lo w))) e
+    ∙ part-set w lo (lo + a - lo) i v (omega arith) (omega arith)
+
+-- every list of ps has n elements
+pub data All : ℕ → List (List ℕ) → Type 0 where
+  none : {n : ℕ} → All n []
+  more : {n : ℕ} {p : List ℕ} {ps : List (List ℕ)} → length p ≡ n → All n ps → All n (p ∷ ps)
+
+offset : {n : ℕ} (p : List ℕ) (k i : ℕ) → length p ≡ n → suc k * n + i ≡ length p + (k * n + i)
+offset {n} p k i e = omega (arith, suc-mul k n)
+
+pub set-joined : {n : ℕ} {ps : List (List ℕ)} → All n ps → (k i v : ℕ) → k < length ps → i < n
+    → set (joined ps) (k * n + i) v ≡ joined (set ps k (set (getD ps k []) i v))
+set-joined none k i v h hi = refl
+set-joined (more {p = p} {ps = ps} e a) zero i v h hi = rw (zero-mul, zero-add) (set-append-left p (joined ps) i v (omega arith))
+set-joined (more {p = p} {ps = ps} e a) (suc k) i v h hi =
+    ap (λ (j : ℕ). set (p ++ joined ps) j v) (offset p k i e)
+    ∙ set-append-add p (joined ps) _ v
+    ∙ ap (λ (l : List ℕ). p ++ l) (set-joined a k i v (omega arith) hi)
+
+pub getD-joined : {n : ℕ} {ps : List (List ℕ)} → All n ps → (k i : ℕ) → k < length ps → i < n → joined ps ! (k * n + i) ≡ getD ps k [] ! i
+getD-joined none k i h hi = refl
+getD-joined (more {p = p} {ps = ps} e a) zero i h hi = rw (zero-mul, zero-add) (List·getD-append p (joined ps) 0 i (omega arith))
+getD-joined (more {p = p} {ps = ps} e a) (suc k) i h hi =
+    ap (λ (j : ℕ). (p ++ joined ps) ! j) (offset p k i e)
+    ∙ getD-append-add p (joined ps) _ 0
+    ∙ getD-joined a k i (omega arith) hi
+
+pub part-joined : {n : ℕ} {ps : List (List ℕ)} → All n ps → (k : ℕ) → k < length ps → take n (drop (k * n) (joined ps)) ≡ getD ps k []
+part-joined none k h = absurd (omega arith)
+part-joined (more {p = p} {ps = ps} e a) zero h = rw zero-mul (take-at p (joined ps) _ e)
+part-joined {n} (more {p = p} {ps = ps} e a) (suc k) h =
+    let e′ : suc k * n ≡ length p + k * n = omega (arith, suc-mul k n) in
+    ap (λ (j : ℕ). take n (drop j (p ++ joined ps))) e′
+    ∙ ap (take n) (drop-append-add p (joined ps) (k * n))
+    ∙ part-joined a k (omega arith)
+
+-- the parts keep their length
+pub All-set : {n : ℕ} {ps : List (List ℕ)} → All n ps → (k i v : ℕ) → All n (set ps k (set (getD ps k []) i v))
+All-set none k i v = none
+All-set (more {p = p} e a) zero i v = more (length-set p i v ∙ e) a
+All-set (more e a) (suc k) i v = more e (All-set a k i v)
+
+pub length-joined : {n : ℕ} {ps : List (List ℕ)} → All n ps → length (joined ps) ≡ length ps * n
+length-joined {n} none = sym (zero-mul n)
+length-joined {n} (more {p = p} {ps = ps} e a) = length-append p (joined ps) ∙ omega (arith, suc-mul (length ps) n, length-joined a)

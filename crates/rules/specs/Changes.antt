@@ -1,0 +1,76 @@
+-- Document 01, 'Changes': what opening, taking out and seating leave, word by word.
+use mathlib.Core.List.{List, [], _∷_, _++_}
+use Prim.Native.Nat.{ℕ, zero, suc, _+_, _-_}
+use lib.ListN.{length, set, replicate}
+use Rattle.rules.specs.Table.{_!_, Bare, Table}
+
+-- i, i + 1, .. : n numbers
+abbrev pub count : ℕ → ℕ → List ℕ
+count zero i = []
+count (suc n) i = i ∷ count n (suc i)
+
+-- i, i - 1, .. : n numbers
+abbrev pub down : ℕ → ℕ → List ℕ
+down zero i = []
+down (suc n) i = i ∷ down n (i - 1)
+
+-- Opening with a and a list of ids
+unfoldable pub opened : ℕ → List ℕ → Table
+opened a ids =
+    let w = length ids in
+    record {
+      bare = record {
+        seats = a;
+        used = w;
+        A = replicate w 0 ++ count (a - w) w;
+        K = count a 0;
+        W = count a 0;
+        L = count a 0;
+        R = down (a - w) (a - 1) ++ replicate w 0;
+      };
+      S = ids ++ replicate (a - w) 0;
+    }
+
+-- Taking out the seat b, with the ids set aside
+abbrev pub out : Bare → ℕ → Bare
+out T b =
+    let N = T .used - 1 in
+    let last = T .W ! N in
+    let place = T .L ! b in
+    record {
+      seats = T .seats;
+      used = N;
+      A = set (T .A) b N;
+      K = set (T .K) b last;
+      W = set (T .W) place last;
+      L = set (T .L) last place;
+      R = set (T .R) (T .seats - T .used) b;
+    }
+
+-- the last entry of R
+abbrev pub lastOut : Bare → ℕ
+lastOut T = T .R ! (T .seats - T .used - 1)
+
+-- Seating the last seat out, with the ids set aside
+abbrev pub seat : Bare → Bare
+seat T =
+    let N = T .used in
+    let b = lastOut T in
+    let L = set (T .L) (T .W ! N) N in
+    record {
+      seats = T .seats;
+      used = N + 1;
+      A = set (T .A) b 0;
+      K = set (T .K) b b;
+      W = set (T .W) (L ! b) b;
+      L = L;
+      R = set (T .R) (T .seats - N - 1) 0;
+    }
+
+-- Taking out the seat b of an id
+abbrev pub takeOut : Table → ℕ → Table
+takeOut T b = record { bare = out (T .bare) b; S = set (T .S) b 0 }
+
+-- Seating an id
+abbrev pub seatId : Table → ℕ → Table
+seatId T id = record { bare = seat (T .bare); S = set (T .S) (lastOut (T .bare)) id }

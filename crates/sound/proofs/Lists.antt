@@ -1,0 +1,61 @@
+-- Laws of lists of words that the library lacks.
+-- Assumes nothing.
+use mathlib.Core.Path.{_≡_, refl, sym, ap, _∙_}
+use mathlib.Core.List.{List, [], _∷_, _++_}
+use Prim.Native.Nat.{ℕ, zero, suc, _+_, _-_, _<_, _≤_}
+use native.Mathlib.Omega.{arith}
+use native.Mathlib.Decide.{ℕ-discrete}
+use lib.ListN.{length, set, replicate}
+use lib.Seq.{getD-set-other, set-getD, set-set}
+use mathlib.Core.Logic.{_≢_}
+use Rattle.rules.specs.Table.{_!_}
+use Rattle.rules.specs.Changes.{count, down}
+
+pub length-count : (n i : ℕ) → length (count n i) ≡ n
+length-count zero i = refl
+length-count (suc n) i = ap suc (length-count n (suc i))
+
+pub count-at : (n i j : ℕ) → j < n → count n i ! j ≡ i + j
+count-at zero i j h = absurd (omega arith)
+count-at (suc n) i zero h = omega arith
+count-at (suc n) i (suc j) h = count-at n (suc i) j (omega arith) ∙ omega arith
+
+pub zeros-at : (n i : ℕ) → replicate n 0 ! i ≡ 0
+zeros-at zero i = refl
+zeros-at (suc n) zero = refl
+zeros-at (suc n) (suc i) = zeros-at n i
+
+pub length-down : (n t : ℕ) → length (down n t) ≡ n
+length-down zero t = refl
+length-down (suc n) t = ap suc (length-down n (t - 1))
+
+pub down-at : (n t i : ℕ) → i < n → down n t ! i ≡ t - i
+down-at zero t i h = absurd (omega arith)
+down-at (suc n) t zero h = omega arith
+down-at (suc n) t (suc i) h = down-at n (t - 1) i (omega arith) ∙ omega arith
+
+-- w zeros, then w, w + 1, ..
+pub counted : (w m n x : ℕ) → w ≤ x → x < w + m → (replicate w 0 ++ count m n) ! x ≡ n + (x - w)
+counted zero m n x h l = count-at m n x (omega arith) ∙ omega arith
+counted (suc w) m n zero h l = absurd (omega arith)
+counted (suc w) m n (suc x) h l = counted w m n x (omega arith) (omega arith) ∙ omega arith
+
+pub padded : (rs : List ℕ) (m i : ℕ) → length rs ≤ i → (rs ++ replicate m 0) ! i ≡ 0
+padded [] m i h = zeros-at m i
+padded (r ∷ rs) m zero h = absurd (omega arith)
+padded (r ∷ rs) m (suc i) h = padded rs m i (omega arith)
+
+-- storing at p what stands at n leaves n's word alone
+pub keeps : (l : List ℕ) (p n : ℕ) → set l p (l ! n) ! n ≡ l ! n
+keeps l p n = elim (ℕ-discrete n p) [ yes e ↦ rw e (set-getD-at l p) | no ne ↦ getD-set-other l p n (l ! n) 0 ne ]
+  where
+    set-getD-at : (l : List ℕ) (p : ℕ) → set l p (l ! p) ! p ≡ l ! p
+    set-getD-at l p = ap (λ (m : List ℕ). m ! p) (set-getD l p 0)
+
+-- a store and its undoing
+pub set-back : (l : List ℕ) (i x y : ℕ) → l ! i ≡ y → set (set l i x) i y ≡ l
+set-back l i x y e = set-set l i x y ∙ ap (λ (v : ℕ). set l i v) (sym e) ∙ set-getD l i 0
+
+-- seats with different words are different
+pub differ : (l : List ℕ) {x y : ℕ} → l ! x ≢ l ! y → x ≢ y
+differ l ne e = ne (ap (λ (i : ℕ). l ! i) e)

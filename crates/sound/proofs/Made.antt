@@ -1,0 +1,135 @@
+-- What a table is that is made by taking the seats rs out, in order, of a full one; and that seating undoes the last.
+-- Assumes nothing.
+use mathlib.Core.Path.{_≡_, refl, sym, ap, ap₂, _∙_}
+use mathlib.Core.List.{List, [], _∷_, _++_}
+use mathlib.Core.Logic.{_≢_, inl, inr}
+use Prim.Native.Nat.{ℕ, zero, suc, _+_, _-_, _<_, _≤_}
+use native.Mathlib.Omega.{arith}
+use native.Mathlib.Decide.{ℕ-discrete, decLt}
+use native.Mathlib.Numerals.{add-one}
+use lib.ListN.{length, set, replicate, length-append, length-replicate, List·getD-append}
+use lib.Seq.{ext-getD, getD-set-same}
+use Rattle.rules.specs.Table.{_!_, Bare}
+use Rattle.rules.specs.Changes.{out, seat}
+use Rattle.sound.specs.Kept.{Kept, Shape, Leaves}
+use Rattle.sound.specs.Form.{after, made, Takeable}
+use Rattle.sound.proofs.Lists.{padded, keeps, set-back}
+use Rattle.sound.proofs.Written.{written}
+use Rattle.sound.proofs.KeptOut.{kept-full, kept-out}
+
+-- the table after the first k of rs
+pub record After (a : ℕ) (rs : List ℕ) (k : ℕ) (T : Bare) : Type 0 where
+  pub seats : T .seats ≡ a
+  pub used : T .used ≡ a - k
+  pub kept : Kept T
+  pub left : (i : ℕ) → i < k → T .R ! i ≡ rs ! i
+
+pub fewer-still : {a : ℕ} {rs : List ℕ} {k j : ℕ} → Takeable a rs k → j ≤ k → Takeable a rs j
+fewer-still t h = record { fewer = omega arith; below = λ i l. t .below i (omega arith); apart = λ i j l m. t .apart i j l (omega arith) }
+
+-- the next of rs is in use
+module _ {a : ℕ} {rs : List ℕ} {k : ℕ} {T : Bare} (t : Takeable a rs (suc k)) (d : After a rs k T) where
+  pub next-leaves : Leaves T (rs ! k)
+  next-leaves =
+      let below = t .below k (omega arith) in
+      record {
+        below = omega arith;
+        inUse = elim (d .kept .order .each (rs ! k) (omega arith)) [
+          | inl z ↦ z
+          | inr o ↦ absurd (t .apart _ k (omega arith) (omega arith) (sym (d .left _ (omega arith)) ∙ o .2))
+        ];
+        two = omega arith;
+      }
+
+  pub next : After a rs (suc k) (out T (rs ! k))
+  next =
+      let w = written (d .kept) next-leaves in
+      record {
+        seats = d .seats;
+        used = omega arith;
+        kept = kept-out (d .kept) next-leaves;
+        left = λ i h. elim (ℕ-discrete i k) [
+          | yes e ↦ ap (λ (j : ℕ). out T (rs ! k) .R ! j) (omega arith) ∙ w .R-at ∙ ap (λ (j : ℕ). rs ! j) (sym e)
+          | no ne ↦ w .R-off i (omega arith) ∙ d .left i (omega arith)
+        ];
+      }
+
+pub after-is : (a : ℕ) (rs : List ℕ) (k : ℕ) → Takeable a rs k → After a rs k (after a rs k)
+unfolding after
+after-is a rs zero t = record { seats = refl; used = omega arith; kept = kept-full a (omega arith); left = λ i h. absurd (omega arith) }
+after-is a rs (suc k) t = next t (after-is a rs k (fewer-still t (omega arith)))
+
+-- only the first k of rs matter
+pub after-first : (a : ℕ) (rs ss : List ℕ) (k : ℕ) → ((i : ℕ) → i < k → rs ! i ≡ ss ! i) → after a rs k ≡ after a ss k
+unfolding after
+after-first a rs ss zero h = refl
+after-first a rs ss (suc k) h = ap₂ out (after-first a rs ss k (λ i l. h i (omega arith))) (h k (omega arith))
+
+-- what stands in the made table
+pub record Made (a : ℕ) (rs : List ℕ) (T : Bare) : Type 0 where
+  pub seats : T .seats ≡ a
+  pub used : T .used ≡ a - length rs
+  pub shape : Shape T
+  pub inUse : (x : ℕ) → x < a → ((i : ℕ) → i < length rs → rs ! i ≢ x) → T .A ! x ≡ 0
+  pub seated : (x : ℕ) → x < a → T .A ! x ≡ 0 → (T .K ! x ≡ x) × (T .L ! x < T .used) × (T .W ! (T .L ! x) ≡ x)
+  pub line : (p : ℕ) → p < T .used → (T .W ! p < a) × (T .A ! (T .W ! p) ≡ 0) × (T .L ! (T .W ! p) ≡ p)
+  pub isR : T .R ≡ rs ++ replicate (a - length rs) 0
+  pub isA : (i : ℕ) → i < length rs → T .A ! (rs ! i) ≡ a - 1 - i
+
+module _ (a : ℕ) (rs : List ℕ) (T : Bare) (d : After a rs (length rs) T) (few : length rs < a) where
+  R-is : (i : ℕ) → T .R ! i ≡ (rs ++ replicate (a - length rs) 0) ! i
+  R-is i = elim (decLt i (length rs)) [
+    | yes h ↦ d .left i h ∙ sym (List·getD-append rs _ 0 i h)
+    | no h ↦ d .kept .order .rest i (omega arith) ∙ sym (padded rs (a - length rs) i (omega arith))
+  ]
+
+  facts : Made a rs T
+  facts =
+      record {
+        seats = d .seats;
+        used = d .used;
+        shape = d .kept .shape;
+        inUse = λ x h ne. elim (d .kept .order .each x (omega arith)) [
+          | inl z ↦ z
+          | inr o ↦ absurd (ne _ (omega arith) (sym (d .left _ (omega arith)) ∙ o .2))
+        ];
+        seated = λ x h. d .kept .seated x (omega arith);
+        line = λ p h. let l = d .kept .line p h in (omega arith, l .1, l .2);
+        isR = ext-getD 0 (T .R) _ (simp (length-append, length-replicate) (omega arith)) (λ i h. R-is i);
+        isA = λ i h. ap (λ (x : ℕ). T .A ! x) (sym (d .left i h)) ∙ d .kept .order .taken i (omega arith) .1 ∙ omega arith;
+      }
+
+pub theorem : (a : ℕ) (rs : List ℕ) → Takeable a rs (length rs) → Made a rs (made a rs)
+theorem a rs t = facts a rs (made a rs) (after-is a rs (length rs) t) (t .fewer)
+
+-- seating puts back what taking out wrote
+pub undone : {T : Bare} {b : ℕ} → Kept T → Leaves T b → seat (out T b) ≡ T
+undone {T} {b} g v =
+    let n = T .used - 1 in
+    let p = T .L ! b in
+    let last = T .W ! n in
+    let at = T .seats - T .used in
+    let s = g .seated b (v .below) (v .inUse) in
+    let same-at : T .seats - n - 1 ≡ at = omega arith in
+    let is-b : set (T .R) at b ! at ≡ b = getD-set-same (T .R) at b 0 (omega arith) in
+    let L-back : set (set (T .L) last p) last n ≡ T .L = set-back (T .L) last p n (g .line n (omega arith) .2) in
+    let N-back : n + 1 ≡ T .used = omega arith in
+    rw (same-at, is-b, keeps (T .W) p n, L-back)
+    (λ i. record {
+      seats = T .seats;
+      used = N-back i;
+      A = set-back (T .A) b n 0 (v .inUse) i;
+      K = set-back (T .K) b last b (s .0) i;
+      W = set-back (T .W) p last b (s .2) i;
+      L = T .L;
+      R = set-back (T .R) at b 0 (g .order .rest at (omega arith)) i;
+    })
+
+pub made-undo : (a : ℕ) (rs : List ℕ) (b : ℕ) → Takeable a (rs ++ (b ∷ [])) (suc (length rs)) → seat (made a (rs ++ (b ∷ []))) ≡ made a rs
+unfolding after
+made-undo a rs b t =
+    let k = length rs in
+    let ss = rs ++ (b ∷ []) in
+    let d = after-is a ss k (fewer-still t (omega arith)) in
+    let longer : length ss ≡ suc k = length-append rs (b ∷ []) ∙ add-one k in
+    ap (λ (j : ℕ). seat (after a ss j)) longer ∙ undone (d .kept) (next-leaves t d) ∙ after-first a ss rs k (λ i h. List·getD-append rs (b ∷ []) 0 i h)

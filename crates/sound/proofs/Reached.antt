@@ -1,0 +1,148 @@
+-- A table is reached by some history if and only if it is made by taking seats out of a full one, with good ids.
+-- Only if: an opening passes the test, and so does what a change makes of a table that passes.
+-- If: by induction on the seats out of use. With none it is an opening. Else seat any fresh id: the table that this makes
+-- has one less, so it is reached, and taking that id out again gives the table back.
+-- Assumes nothing.
+use mathlib.Core.Path.{_≡_, refl, sym, ap, _∙_, subst}
+use mathlib.Core.List.{List, _∷_, _++_, append-nil}
+use mathlib.Core.Logic.{_≢_, _↔_, inl, inr}
+use Prim.Native.Nat.{ℕ, zero, suc, _-_, _<_, _≤_}
+use native.Mathlib.Omega.{arith}
+use native.Mathlib.Decide.{ℕ-discrete}
+use lib.ListN.{length, set, replicate}
+use lib.Seq.{getD-set-same, set-set, set-getD}
+use Rattle.rules.specs.Table.{_!_, Bare, Table, mostSeats}
+use Rattle.rules.specs.Changes.{opened, lastOut, takeOut, seatId}
+use Rattle.rules.specs.History.{Opens, Id, Change, taking, seating, Seats, Takes, Accepts, changed, run, Accepted, done, then, Reached}
+use Rattle.rules.specs.Keys.{full}
+use Rattle.sound.specs.Kept.{Kept, Leaves}
+use Rattle.sound.specs.Form.{after, Ids, Form}
+use Rattle.sound.specs.Test.{Test}
+use Rattle.sound.proofs.Audit.{as-made, audit}
+use Rattle.sound.proofs.Steps.{kept, out-passes, seat-passes, out-of-seat}
+use Rattle.sound.proofs.Fresh.{fresh}
+use Rattle.sound.proofs.IdsSet.{ids-set}
+use Rattle.sound.proofs.Opened.{open-passes, open-ids}
+use Rattle.sound.proofs.Histories.{reached-opened, reached-changed}
+
+-- what is kept along a history
+pub record Passes (T : Table) : Type 0 where
+  pub most : T .bare .seats ≤ mostSeats
+  pub test : Test (T .bare)
+  pub ids : Ids (T .bare .seats) (T .bare .A) (T .S)
+
+-- an id stands in a seat in use
+pub leaves : {T : Table} {id b : ℕ} → Passes T → Takes T id b → Leaves (T .bare) b
+leaves {T} {id} {b} p s =
+    record {
+      below = s .below;
+      inUse = elim (ℕ-discrete (T .bare .A ! b) 0) [ yes e ↦ e | no ne ↦ absurd (s .isId .0 (sym (s .has) ∙ p .ids .none b (s .below) (omega arith))) ];
+      two = s .two;
+    }
+
+pub changed-passes : {T : Table} (c : Change) → Passes T → Accepts T c → Passes (changed T c)
+changed-passes {T} (taking id b) p s =
+    record {
+      most = p .most;
+      test = out-passes (T .bare) b (p .test) (leaves p s);
+      ids = ids-set (T .bare .seats) (T .bare .A) (T .S) b (T .bare .used - 1) 0 (p .ids) (s .below) (p .test .shape .lenA) (λ l. refl) (λ z. absurd (omega (arith, s .two))) (λ o. absurd (o refl));
+    }
+changed-passes {T} (seating id b) p s =
+    let below = p .test .order .taken (T .bare .seats - T .bare .used - 1) (omega (arith, s .room)) .0 in
+    record {
+      most = p .most;
+      test = seat-passes (T .bare) (p .test) (s .room);
+      ids = ids-set (T .bare .seats) (T .bare .A) (T .S) _ 0 id (p .ids) below (p .test .shape .lenA) (λ l. absurd (omega arith)) (λ z. s .isId) (λ o. s .absent);
+    }
+
+run-passes : {T : Table} {h : List Change} → Accepted T h → Passes T → Passes (run T h)
+run-passes done p = p
+run-passes (then {c = c} s ok) p = run-passes ok (changed-passes c p s)
+
+pub opened-passes : (a : ℕ) (ids : List ℕ) → Opens a ids → Passes (opened a ids)
+unfolding opened
+opened-passes a ids o = record { most = o .most; test = open-passes a ids o; ids = open-ids a ids o }
+
+pub passes : {T : Table} → Reached T → Passes T
+passes r = subst (λ (U : Table). Passes U) (r .leaves) (run-passes (r .accepted) (opened-passes (r .a) (r .ids) (r .opens)))
+
+-- two tables of the same words
+alike : {T U : Table} → T .bare ≡ U .bare → T .S ≡ U .S → T ≡ U
+alike p q = λ i. record { bare = p i; S = q i }
+
+-- with every seat in use a table is an opening
+filled : (F : Bare) → Test F → F .seats - F .used ≡ 0 → F ≡ full (F .seats)
+unfolding after
+filled F t e = as-made F t ∙ ap (λ (k : ℕ). after (F .seats) (F .R) k) e
+
+module _ (T : Table) (p : Passes T) (e : T .bare .seats - T .bare .used ≡ 0) where
+  inUse : (x : ℕ) → x < T .bare .seats → T .bare .A ! x ≡ 0
+  inUse x h = elim (p .test .order .each x h) [ inl z ↦ z | inr o ↦ absurd (omega arith) ]
+
+  opens : Opens (T .bare .seats) (T .S)
+  opens =
+      let size = p .ids .size in
+      record {
+        most = p .most;
+        some = omega arith;
+        fit = omega arith;
+        each = λ x h. p .ids .some x (omega arith) (inUse x (omega arith));
+        apart = λ x y h l k. omega (arith, p .ids .apart x y (omega arith) (omega arith) (p .ids .some x (omega arith) (inUse x (omega arith)) .0) k);
+      }
+
+  an-opening : T ≡ opened (T .bare .seats) (T .S)
+  unfolding opened
+  an-opening =
+      let none : T .bare .seats - length (T .S) ≡ 0 = omega (arith, p .ids .size) in
+      alike (filled (T .bare) (p .test) e ∙ sym (filled (opened (T .bare .seats) (T .S) .bare) (open-passes (T .bare .seats) (T .S) opens) none))
+      (sym (ap (λ (k : ℕ). T .S ++ replicate k 0) none ∙ append-nil (T .S)))
+
+-- else one more id may be seated, and taken out again
+module _ (T : Table) (p : Passes T) (h : T .bare .used < T .bare .seats) where
+  abbrev b : ℕ
+  b = lastOut (T .bare)
+
+  last-taken : (b < T .bare .seats) × (T .bare .A ! b ≡ T .bare .seats - 1 - (T .bare .seats - T .bare .used - 1))
+  last-taken = p .test .order .taken (T .bare .seats - T .bare .used - 1) (omega arith)
+
+  seatable : (id : ℕ) × Seats T id b
+  seatable =
+      let u = fresh (0 ∷ T .S) in (
+        u .0,
+        record {
+          isId = (λ z. u .2 0 (omega arith) (sym z), omega (arith, p .most, p .ids .size));
+          absent = λ x l. u .2 (suc x) (omega (arith, p .ids .size));
+          room = h;
+          isLast = refl;
+        },
+      )
+
+  takes : (id : ℕ) → Seats T id b → Takes (seatId T id) id b
+  takes id s =
+      record { isId = s .isId; below = last-taken .0; has = getD-set-same (T .S) b id 0 (omega (arith, p .ids .size, last-taken .0)); two = omega (arith, p .test .shape .some) }
+
+  pub back : (id : ℕ) → takeOut (seatId T id) b ≡ T
+  back id =
+      let none : T .S ! b ≡ 0 = p .ids .none b (last-taken .0) (omega (arith, last-taken .1)) in
+      alike (out-of-seat (T .bare) (p .test) h) (set-set (T .S) b id 0 ∙ ap (λ (v : ℕ). set (T .S) b v) (sym none) ∙ set-getD (T .S) b 0)
+
+reach : (k : ℕ) (T : Table) → T .bare .seats - T .bare .used ≡ k → Passes T → Reached T
+reach zero T e p = subst (λ (U : Table). Reached U) (sym (an-opening T p e)) (reached-opened (T .bare .seats) (T .S) (opens T p e))
+reach (suc k) T e p =
+    let h : T .bare .used < T .bare .seats = omega arith in
+    let (id, s) = seatable T p h in
+    let r = reach k (seatId T id) (omega arith) (changed-passes (seating id (b T p h)) p s) in
+    subst (λ (U : Table). Reached U) (back T p h id) (reached-changed (taking id (b T p h)) r (takes T p h id s))
+
+pub reached : {T : Table} → Passes T → Reached T
+reached {T} p = reach (T .bare .seats - T .bare .used) T refl p
+
+pub theorem : (T : Table) → Reached T ↔ Form T
+theorem T = (
+  λ r. let p = passes r in record { most = p .most; isMade = audit (T .bare) .0 (p .test); ids = p .ids },
+  λ f. reached (record { most = f .most; test = audit (T .bare) .1 (f .isMade); ids = f .ids }),
+)
+
+-- so a reached table keeps what made tables keep
+pub reached-kept : {T : Table} → Reached T → Kept (T .bare)
+reached-kept {T} r = kept (T .bare) (passes r .test)

@@ -1,0 +1,42 @@
+-- A change of a table that passes the test leaves one that passes; and taking out undoes seating.
+-- Assumes nothing.
+use mathlib.Core.Path.{_≡_, sym, ap, _∙_, subst}
+use Prim.Native.Nat.{ℕ, suc, _-_, _<_}
+use native.Mathlib.Omega.{arith}
+use Rattle.rules.specs.Table.{Bare, _!_}
+use Rattle.rules.specs.Changes.{out, seat}
+use Rattle.sound.specs.Kept.{Kept, Leaves}
+use Rattle.sound.specs.Form.{after, Takeable}
+use Rattle.sound.specs.Test.{Test}
+use Rattle.sound.proofs.Made.{fewer-still, After, after-is, next-leaves, undone}
+use Rattle.sound.proofs.Passes.{made-passes, test-out}
+use Rattle.sound.proofs.Audit.{R-takeable, as-made}
+
+pub kept : (T : Bare) → Test T → Kept T
+kept T t = subst (λ (X : Bare). Kept X) (sym (as-made T t)) (after-is (T .seats) (T .R) (T .seats - T .used) (R-takeable T t) .kept)
+
+pub out-passes : (T : Bare) (b : ℕ) → Test T → Leaves T b → Test (out T b)
+out-passes T b t v = test-out (kept T t) v t
+
+module _ (T : Bare) (t : Test T) (h : T .used < T .seats) where
+  abbrev j : ℕ
+  j = T .seats - T .used - 1
+
+  few : Takeable (T .seats) (T .R) (suc j)
+  few = fewer-still (R-takeable T t) (omega arith)
+
+  before : After (T .seats) (T .R) j (after (T .seats) (T .R) j)
+  before = after-is (T .seats) (T .R) j (fewer-still few (omega arith))
+
+  last-out : T ≡ out (after (T .seats) (T .R) j) (T .R ! j)
+  unfolding after
+  last-out = let e : T .seats - T .used ≡ suc j = omega arith in as-made T t ∙ ap (λ (k : ℕ). after (T .seats) (T .R) k) e
+
+  seated : seat T ≡ after (T .seats) (T .R) j
+  seated = ap seat last-out ∙ undone (before .kept) (next-leaves few before)
+
+  pub seat-passes : Test (seat T)
+  seat-passes = subst (λ (X : Bare). Test X) (sym seated) (made-passes (T .seats) (T .R) j (fewer-still few (omega arith)))
+
+  pub out-of-seat : out (seat T) (T .R ! j) ≡ T
+  out-of-seat = ap (λ (X : Bare). out X (T .R ! j)) seated ∙ sym last-out
