@@ -2,7 +2,7 @@
 ghost use mathlib.Core.Path.{_≡_};
 ghost use Prim.Native.Nat.{_+_, _<_};
 ghost use lib.ListN.{length, set};
-ghost use Rattle.rules.specs.Table.{_!_, base, part, tableOf};
+ghost use Rattle.rules.specs.Table.{_!_, base, part, tableFor};
 ghost use Rattle.parts.specs.Shape.{sizeOf, Shape, Lent};
 use rules::Position;
 use rules::Seat;
@@ -64,8 +64,8 @@ fn put_at(part: &mut [u32], i: usize, v: u32)
 
 // Word i of part k.
 fn word(t: &[u32], a: usize, k: usize, i: usize) -> u32
-    requires { ⌜ (Shape (now t) a) × (Lent (now t) a k i) ⌝ }
-    ensures { λ r. ⌜ r ≡ part (now (t .entry) ! 0) k (now (t .entry)) ! i ⌝ }
+    requires { ⌜ Lent (now t) a k i ⌝ }
+    ensures { λ r. ⌜ r ≡ part a k (now (t .entry)) ! i ⌝ }
 {
     let lo = 2 + k * a;
     word_at(&t[lo..lo + a], i)
@@ -97,42 +97,42 @@ pub fn first_seat(p: Position) -> Seat
 // The reads.
 pub fn get_a(t: &[u32], a: usize, b: Seat) -> u32
     requires { ⌜ (Shape (now t) a) × (b .0 < a) ⌝ }
-    ensures { λ r. ⌜ r ≡ tableOf (now (t .entry)) .bare .A ! (b .0) ⌝ }
+    ensures { λ r. ⌜ r ≡ tableFor a (now (t .entry)) .bare .A ! (b .0) ⌝ }
 {
     word(t, a, A, b.0 as usize)
 }
 
 pub fn get_k(t: &[u32], a: usize, b: Seat) -> Seat
     requires { ⌜ (Shape (now t) a) × (b .0 < a) ⌝ }
-    ensures { λ r. ⌜ r .0 ≡ tableOf (now (t .entry)) .bare .K ! (b .0) ⌝ }
+    ensures { λ r. ⌜ r .0 ≡ tableFor a (now (t .entry)) .bare .K ! (b .0) ⌝ }
 {
     Seat(word(t, a, K, b.0 as usize))
 }
 
 pub fn get_w(t: &[u32], a: usize, p: Position) -> Seat
     requires { ⌜ (Shape (now t) a) × (p .0 < a) ⌝ }
-    ensures { λ r. ⌜ r .0 ≡ tableOf (now (t .entry)) .bare .W ! (p .0) ⌝ }
+    ensures { λ r. ⌜ r .0 ≡ tableFor a (now (t .entry)) .bare .W ! (p .0) ⌝ }
 {
     Seat(word(t, a, W, p.0 as usize))
 }
 
 pub fn get_l(t: &[u32], a: usize, b: Seat) -> Position
     requires { ⌜ (Shape (now t) a) × (b .0 < a) ⌝ }
-    ensures { λ r. ⌜ r .0 ≡ tableOf (now (t .entry)) .bare .L ! (b .0) ⌝ }
+    ensures { λ r. ⌜ r .0 ≡ tableFor a (now (t .entry)) .bare .L ! (b .0) ⌝ }
 {
     Position(word(t, a, L, b.0 as usize))
 }
 
 pub fn get_r(t: &[u32], a: usize, i: usize) -> Seat
     requires { ⌜ (Shape (now t) a) × (i < a) ⌝ }
-    ensures { λ r. ⌜ r .0 ≡ tableOf (now (t .entry)) .bare .R ! i ⌝ }
+    ensures { λ r. ⌜ r .0 ≡ tableFor a (now (t .entry)) .bare .R ! i ⌝ }
 {
     Seat(word(t, a, R, i))
 }
 
 pub fn get_s(t: &[u32], a: usize, b: Seat) -> u32
     requires { ⌜ (Shape (now t) a) × (b .0 < a) ⌝ }
-    ensures { λ r. ⌜ r ≡ tableOf (now (t .entry)) .S ! (b .0) ⌝ }
+    ensures { λ r. ⌜ r ≡ tableFor a (now (t .entry)) .S ! (b .0) ⌝ }
 {
     word(t, a, S, b.0 as usize)
 }
