@@ -20,7 +20,7 @@ use Rattle.sound.proofs.Sound.{sound?}
 use Rattle.audit.specs.Decides.{decided}
 use Rattle.audit.specs.Pass.{Counted, AllPass}
 use Rattle.audit.proofs.Exact.{Pass, pass-sound, sound-pass}
-use Rattle.audit.specs.Audit.{isSound, audit}
+use Rattle.audit.specs.Audit.{isSound, auditCall}
 
 yes-true : {P : Type 0} (d : Dec P) → P → decided d ≡ true
 yes-true (yes p) q = refl
@@ -39,17 +39,17 @@ module _ (w : List ℕ) where
   unfolding isSound
   not-sound n = no-false (sound? w) n
 
-  pub audit-size : legal w ≡ false → refused Size ≡ audit w
-  unfolding audit
+  pub audit-size : legal w ≡ false → refused Size ≡ auditCall w
+  unfolding auditCall
   audit-size l = rw l refl
 
   module _ (l : legal w ≡ true) where
-    pub audit-damaged : (Sound w → ⊥) → refused Damaged ≡ audit w
-    unfolding audit
+    pub audit-damaged : (Sound w → ⊥) → refused Damaged ≡ auditCall w
+    unfolding auditCall
     audit-damaged n = rw (l, not-sound n) refl
 
-    pub audit-fine : Sound w → fine [] ≡ audit w
-    unfolding audit
+    pub audit-fine : Sound w → fine [] ≡ auditCall w
+    unfolding auditCall
     audit-fine s = rw (l, is-sound s) refl
 
 -- the same, by what the code has seen of a run for a seats
@@ -69,22 +69,22 @@ module _ (w : List ℕ) (a : ℕ) (size : sizeOf w ≡ Seats a) where
   pub counted : 1 ≤ w ! 1 → w ! 1 ≤ a → Counted w a (w ! 1)
   counted some most = record { shape = shape; isN = refl; some = some; most = most }
 
-  refuse : (Pass w → ⊥) → refused Damaged ≡ audit w
+  refuse : (Pass w → ⊥) → refused Damaged ≡ auditCall w
   refuse n = audit-damaged w (legal-seats w a size .0) (λ s. n (sound-pass w known s))
 
-  pub none-used : w ! 1 < 1 → refused Damaged ≡ audit w
+  pub none-used : w ! 1 < 1 → refused Damaged ≡ auditCall w
   none-used h = refuse (λ p. omega (arith, p .some))
 
-  pub more-used : a < w ! 1 → refused Damaged ≡ audit w
+  pub more-used : a < w ! 1 → refused Damaged ≡ auditCall w
   more-used h = refuse (λ p. omega (arith, p .most, is-a))
 
-  pub one-fails : (AllPass (tableFor a w) a → ⊥) → refused Damaged ≡ audit w
+  pub one-fails : (AllPass (tableFor a w) a → ⊥) → refused Damaged ≡ auditCall w
   one-fails n = refuse (λ p. n (subst (λ (n : ℕ). AllPass (tableFor n w) n) is-a (p .all)))
 
-  pub id-twice : repeats (tableFor a w .S) ≡ true → refused Damaged ≡ audit w
+  pub id-twice : repeats (tableFor a w .S) ≡ true → refused Damaged ≡ auditCall w
   id-twice r = refuse (λ p. true-or-false (repeats (tableFor a w .S)) r (subst (λ (n : ℕ). repeats (tableFor n w .S) ≡ false) is-a (p .once)))
 
-  pub all-well : ((i : ℕ) → w ! i < 2 ^ 32) → Counted w a (w ! 1) → AllPass (tableFor a w) a → repeats (tableFor a w .S) ≡ false → fine [] ≡ audit w
+  pub all-well : ((i : ℕ) → w ! i < 2 ^ 32) → Counted w a (w ! 1) → AllPass (tableFor a w) a → repeats (tableFor a w .S) ≡ false → fine [] ≡ auditCall w
   all-well word c p r =
       audit-fine w (legal-seats w a size .0) (pass-sound w known
       (record { some = c .some; most = rw is-a (c .most); all = subst (λ (n : ℕ). AllPass (tableFor n w) n) (sym is-a) p; once = subst (λ (n : ℕ). repeats (tableFor n w .S) ≡ false) (sym is-a) r }) word)

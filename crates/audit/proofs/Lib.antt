@@ -1,3 +1,4 @@
 pub mod Decisions
 pub mod Exact
 pub mod Answers
+pub mod Told

@@ -20,6 +20,6 @@ abbrev pub answerOf : Audited → Answer
 answerOf audited.Sound = fine []
 answerOf (audited.Refused r) = refused r
 
-unfoldable pub audit : List ℕ → Answer
+unfoldable pub auditCall : List ℕ → Answer
 unfolding isSound
-audit w = firstOf (not (legal w) ⇒ Size ∷ not (isSound w) ⇒ Damaged ∷ []) refused (fine [])
+auditCall w = firstOf (not (legal w) ⇒ Size ∷ not (isSound w) ⇒ Damaged ∷ []) refused (fine [])

@@ -3,12 +3,10 @@ ghost use mathlib.Core.Path.{_≡_};
 ghost use Prim.Native.Nat.{_<_, _≤_};
 ghost use lib.ListN.{length};
 ghost use Rattle.rules.specs.Table.{_!_, tableFor};
-ghost use Rattle.rules.specs.Ids.{repeats};
-ghost use Rattle.parts.specs.Shape.{Shape};
 ghost use Rattle.sound.specs.Test.{Owes};
 ghost use Rattle.audit.specs.Decides.{Decides};
 ghost use Rattle.audit.specs.Pass.{Counted, Stands, SeatPasses, Removed, RemovalPasses, AllPass};
-ghost use Rattle.audit.specs.Audit.{answerOf, audit};
+ghost use Rattle.audit.specs.Audit.{answerOf, auditCall};
 use ids::repeats_in;
 use parts::Size;
 use parts::first_place;
@@ -18,6 +16,7 @@ use parts::get_l;
 use parts::get_r;
 use parts::get_s;
 use parts::get_w;
+use parts::servers;
 use parts::size_of;
 use rules::Position;
 use rules::Refusal;
@@ -143,17 +142,8 @@ fn all_pass(t: &[u32], a: usize, n: usize) -> bool
     ok
 }
 
-// The ids: the one search among pairs.
-fn ids_repeat(t: &[u32], a: usize) -> bool
-    requires { ⌜ Shape (now t) a ⌝ }
-    ensures { λ r. ⌜ r ≡ repeats (tableFor a (now (t .entry)) .S) ⌝ }
-{
-    let lo = 2 + 5 * a;
-    repeats_in(&t[lo..lo + a])
-}
-
 pub fn audit_table(t: &[u32]) -> Audited
-    ensures { λ r. ⌜ answerOf r ≡ audit (now (t .entry)) ⌝ }
+    ensures { λ r. ⌜ answerOf r ≡ auditCall (now (t .entry)) ⌝ }
 {
     let Size::Seats(a) = size_of(t) else {
         return Audited::Refused(Refusal::Size);
@@ -166,7 +156,8 @@ pub fn audit_table(t: &[u32]) -> Audited
         return Audited::Refused(Refusal::Damaged);
     }
     if all_pass(t, a, n) {
-        if ids_repeat(t, a) {
+        // the one search among pairs
+        if repeats_in(servers(t, a)) {
             return Audited::Refused(Refusal::Damaged);
         }
         return Audited::Sound;

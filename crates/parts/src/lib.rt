@@ -94,6 +94,15 @@ pub fn first_seat(p: Position) -> Seat
     Seat(p.0)
 }
 
+// The part S, whole.
+pub fn servers(t: &[u32], a: usize) -> &[u32]
+    requires { ⌜ Shape (now t) a ⌝ }
+    ensures { λ r. ⌜ now r ≡ tableFor a (now (t .entry)) .S ⌝ }
+{
+    let lo = 2 + S * a;
+    &t[lo..lo + a]
+}
+
 // The reads.
 pub fn get_a(t: &[u32], a: usize, b: Seat) -> u32
     requires { ⌜ (Shape (now t) a) × (b .0 < a) ⌝ }
@@ -178,6 +187,13 @@ pub fn set_r(t: &mut [u32], a: usize, i: usize, x: Seat)
     ensures { λ _. ⌜ now (t .exit) ≡ set (now (t .entry)) (base a 4 + i) (x .0) ⌝ }
 {
     put(t, a, R, i, x.0);
+}
+
+pub fn clear_r(t: &mut [u32], a: usize, i: usize)
+    requires { ⌜ Lent (now t) a 4 i ⌝ }
+    ensures { λ _. ⌜ now (t .exit) ≡ set (now (t .entry)) (base a 4 + i) 0 ⌝ }
+{
+    put(t, a, R, i, 0);
 }
 
 pub fn set_s(t: &mut [u32], a: usize, b: Seat, x: u32)

@@ -48,14 +48,6 @@ set-joined (more {p = p} {ps = ps} e a) (suc k) i v h hi =
     ∙ set-append-add p (joined ps) _ v
     ∙ ap (λ (l : List ℕ). p ++ l) (set-joined a k i v (omega arith) hi)
 
-pub getD-joined : {n : ℕ} {ps : List (List ℕ)} → All n ps → (k i : ℕ) → k < length ps → i < n → joined ps ! (k * n + i) ≡ getD ps k [] ! i
-getD-joined none k i h hi = refl
-getD-joined (more {p = p} {ps = ps} e a) zero i h hi = rw (zero-mul, zero-add) (List·getD-append p (joined ps) 0 i (omega arith))
-getD-joined (more {p = p} {ps = ps} e a) (suc k) i h hi =
-    ap (λ (j : ℕ). (p ++ joined ps) ! j) (offset p k i e)
-    ∙ getD-append-add p (joined ps) _ 0
-    ∙ getD-joined a k i (omega arith) hi
-
 pub part-joined : {n : ℕ} {ps : List (List ℕ)} → All n ps → (k : ℕ) → k < length ps → take n (drop (k * n) (joined ps)) ≡ getD ps k []
 part-joined none k h = absurd (omega arith)
 part-joined (more {p = p} {ps = ps} e a) zero h = rw zero-mul (take-at p (joined ps) _ e)

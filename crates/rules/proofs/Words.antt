@@ -1,6 +1,6 @@
 -- A table and its run of words: each reads back as the other, and a store into a part is a store into the run.
 -- Assumes nothing.
-use mathlib.Core.Path.{_≡_, refl, sym, ap, ap₂, _∙_}
+use mathlib.Core.Path.{_≡_, refl, sym, ap, ap₂, _∙_, subst}
 use mathlib.Core.Bool.{Bool, true, false, _&&_}
 use mathlib.Core.List.{List, [], _∷_, _++_}
 use Prim.Native.Nat.{ℕ, zero, suc, _+_, _*_, _-_, _<_, _≤_}
@@ -10,8 +10,8 @@ use lib.ListN.{length, take, drop, getD, set, length-take, length-drop, take-app
 use lib.Seq.{drop-drop, getD-take, getD-drop}
 use lib.Dec.{leb, eqb}
 use borrow.Author.Tests.{eq-eqb, le-leb, leb-true, eqb-true}
-use Rattle.rules.specs.Table.{_!_, Bare, Table, parts, joined, words, base, runLength, mostSeats, part, tableOf, legal}
-use Rattle.rules.proofs.Parts.{All, none, more, set-joined, getD-joined, part-joined, length-joined}
+use Rattle.rules.specs.Table.{_!_, Bare, Table, parts, joined, words, base, runLength, mostSeats, part, tableFor, tableOf, legal}
+use Rattle.rules.proofs.Parts.{All, none, more, set-joined, part-joined, All-set, length-joined}
 
 -- a run of legal shape
 pub record Legal (w : List ℕ) : Type 0 where
@@ -90,16 +90,33 @@ sized-tableOf w size =
 pub length-words : (T : Table) → All (T .bare .seats) (parts T) → length (words T) ≡ runLength (T .bare .seats)
 length-words T all = omega (arith, length-joined all)
 
--- a run with its parts in view
-abbrev pub run : ℕ → ℕ → List (List ℕ) → List ℕ
-run s u ps = s ∷ u ∷ joined ps
+-- the run w holds s, u and the parts ps, each of a words
+pub record Holds (w : List ℕ) (s u a : ℕ) (ps : List (List ℕ)) : Type 0 where
+  pub is : w ≡ s ∷ u ∷ joined ps
+  pub sized : All a ps
 
--- a store at i of part k
-pub stored : {w w′ : List ℕ} {s u a : ℕ} {ps : List (List ℕ)} → w ≡ run s u ps → All a ps → (k i v : ℕ) → k < length ps → i < a
-    → w′ ≡ set w (base a k + i) v → w′ ≡ run s u (set ps k (set (getD ps k []) i v))
-stored {s = s} {u = u} {a = a} {ps = ps} e all k i v hk hi e′ =
-    e′ ∙ ap₂ (λ (l : List ℕ) (n : ℕ). set l n v) e (past k a i)
-    ∙ ap (λ (l : List ℕ). s ∷ u ∷ l) (set-joined all k i v hk hi)
+pub holds-table : (w : List ℕ) (a : ℕ) → w ! 0 ≡ a → length w ≡ runLength a → Holds w a (w ! 1) a (parts (tableFor a w))
+holds-table w a first size =
+    subst (λ (n : ℕ). Holds w n (w ! 1) n (parts (tableFor n w))) first
+    (let long : length w ≡ runLength (w ! 0) = rw first size in record { is = sym (words-tableOf w long); sized = sized-tableOf w long })
+
+module _ {w w′ : List ℕ} {s u a : ℕ} {ps : List (List ℕ)} (h : Holds w s u a ps) where
+  -- a store at i of part k
+  pub holds-put : (k i v : ℕ) → k < length ps → i < a → w′ ≡ set w (base a k + i) v → Holds w′ s u a (set ps k (set (getD ps k []) i v))
+  holds-put k i v hk hi e =
+      record {
+        is = e ∙ ap₂ (λ (l : List ℕ) (n : ℕ). set l n v) (h .is) (past k a i) ∙ ap (λ (l : List ℕ). s ∷ u ∷ l) (set-joined (h .sized) k i v hk hi);
+        sized = All-set (h .sized) k i v;
+      }
+
+  -- a store of N
+  pub holds-count : (n : ℕ) → w′ ≡ set w 1 n → Holds w′ s n a ps
+  holds-count n e = record { is = e ∙ ap (λ (l : List ℕ). set l 1 n) (h .is); sized = h .sized }
+
+pub holds-part : {w : List ℕ} {s u a : ℕ} {ps : List (List ℕ)} → Holds w s u a ps → (k : ℕ) → k < length ps → part a k w ≡ getD ps k []
+holds-part {a = a} h k hk =
+    let two : base a k ≡ suc (suc (k * a)) = omega arith in
+    rw (h .is, two) (part-joined (h .sized) k hk)
 
 -- a part's word is a word of the run
 pub part-word : (w : List ℕ) (a k i : ℕ) → i < a → part a k w ! i ≡ w ! (base a k + i)

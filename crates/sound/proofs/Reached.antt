@@ -32,13 +32,11 @@ pub record Passes (T : Table) : Type 0 where
   pub ids : Ids (T .bare .seats) (T .bare .A) (T .S)
 
 -- an id stands in a seat in use
+pub named-in-use : {T : Table} {b : ℕ} → Passes T → b < T .bare .seats → T .S ! b ≢ 0 → T .bare .A ! b ≡ 0
+named-in-use {T} {b} p below named = elim (ℕ-discrete (T .bare .A ! b) 0) [ yes e ↦ e | no ne ↦ absurd (named (p .ids .none b below (omega arith))) ]
+
 pub leaves : {T : Table} {id b : ℕ} → Passes T → Takes T id b → Leaves (T .bare) b
-leaves {T} {id} {b} p s =
-    record {
-      below = s .below;
-      inUse = elim (ℕ-discrete (T .bare .A ! b) 0) [ yes e ↦ e | no ne ↦ absurd (s .isId .0 (sym (s .has) ∙ p .ids .none b (s .below) (omega arith))) ];
-      two = s .two;
-    }
+leaves {T} {id} {b} p s = record { below = s .below; inUse = named-in-use p (s .below) (λ z. s .isId .0 (sym (s .has) ∙ z)); two = s .two }
 
 pub changed-passes : {T : Table} (c : Change) → Passes T → Accepts T c → Passes (changed T c)
 changed-passes {T} (taking id b) p s =

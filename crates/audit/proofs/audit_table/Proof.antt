@@ -2,7 +2,8 @@
 -- Assumes nothing.
 use native.Mathlib.Omega.{arith}
 use borrow.Author.Needs.{needs}
-use mathlib.Core.Path.{_≡_, sym, _∙_}
+use mathlib.Core.Path.{_≡_, sym, ap, _∙_}
+use Rattle.rules.specs.Ids.{repeats}
 use Rattle.parts.specs.Shape.{sizeOf}
 use Rattle.parts.specs.declared.Size.the-variants.{Seats}
 use Rattle.parts.proofs.Sized.{illegal}
@@ -33,19 +34,22 @@ returns-3 c = more-used _ _ (size (c .before .before .before .before)) (search n
 all-pass-requires : tie.Need-all-pass-requires
 all-pass-requires c κs = counted _ _ (size (c .before .before .before .before)) (search needs) (search needs)
 
-ids-repeat-requires : tie.Need-ids-repeat-requires
-ids-repeat-requires c κs = shape _ _ (size (c .before .before .before .before .before .before))
+servers-requires : tie.Need-servers-requires
+servers-requires c κs = shape _ _ (size (c .before .before .before .before .before .before))
 
 returns-4 : tie.Need-returns-4
-returns-4 c = id-twice _ _ (size (c .before .before .before .before .before .before .before .before)) (sym (c .before .ids-repeat .ensures) ∙ c .if4 .taken)
+returns-4 c =
+    let r = c .before in
+    id-twice _ _ (size (r .before .before .before .before .before .before .before .before)) (sym (r .repeats-in .ensures ∙ ap repeats (r .before .servers .ensures)) ∙ c .if4 .taken)
 
 returns-5 : tie.Need-returns-5
 returns-5 c =
-    let t = c .before .before in
+    let r = c .before in
+    let t = r .before .before in
     let n = t .before .before .before .before in
     let a = n .before .before in
     all-well _ _ (size a) (λ i. omega (arith, n .shared-slice-known2 .given i)) (counted _ _ (size a) (search needs) (search needs)) (decides-true _ (t .if3 .taken) (t .before .all-pass .ensures))
-    (sym (c .before .ids-repeat .ensures) ∙ c .if4 .left)
+    (sym (r .repeats-in .ensures ∙ ap repeats (r .before .servers .ensures)) ∙ c .if4 .left)
 
 returns-6 : tie.Need-returns-6
 returns-6 c = one-fails _ _ (size (c .before .before .before .before .before .before)) (decides-false _ (c .if3 .left) (c .before .all-pass .ensures))
@@ -63,7 +67,8 @@ audit-table-spec =
     returns-2
     returns-3
     all-pass-requires
-    ids-repeat-requires
+    servers-requires
+    (λ c κs. search needs)
     returns-4
     returns-5
     returns-6)

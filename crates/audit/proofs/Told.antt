@@ -1,0 +1,60 @@
+-- What the audit's answer tells a call that asks it first: the same refusal, or a sound table.
+-- Assumes nothing.
+use mathlib.Core.Path.{_≡_, refl, sym, ap, _∙_}
+use mathlib.Core.Bool.{Bool, true, false, not}
+use mathlib.Core.List.{List, [], _∷_}
+use Prim.Native.Nat.{ℕ, _<_}
+use native.Mathlib.Omega.{arith}
+use Rattle.rules.specs.Table.{legal}
+use Rattle.rules.specs.History.{Sound}
+use Rattle.rules.specs.Answers.{numberOf, Answer, fine, refused, Outcome, refusedAt, Occasion, _⇒_, firstOf}
+use Rattle.rules.specs.declared.Refusal.{Refusal}
+use Rattle.rules.specs.declared.Refusal.the-variants.{Size, Count, Id, Twice, Damaged, Full, Absent, Last, Room, Form}
+use Rattle.sound.proofs.Sound.{sound?}
+use Rattle.audit.specs.Decides.{decided}
+use Rattle.audit.specs.Audit.{isSound, auditCall}
+
+-- no refusal is fine
+positive : (r : Refusal) → 0 < numberOf r
+positive Size = omega arith
+positive Count = omega arith
+positive Id = omega arith
+positive Twice = omega arith
+positive Damaged = omega arith
+positive Full = omega arith
+positive Absent = omega arith
+positive Last = omega arith
+positive Room = omega arith
+positive Form = omega arith
+
+not-fine : {P : Type 0} (r : Refusal) (vs : List ℕ) → refused r ≡ fine vs → P
+not-fine r vs e = absurd (omega (arith, positive r, ap (λ (x : Answer). x .number) e))
+
+true-yes : {P : Type 0} (d : Dec P) → decided d ≡ true → P
+true-yes (yes p) e = p
+true-yes (no n) e = let z : _≡_ {A = ℕ} 0 1 = cc in absurd (omega arith)
+
+module _ (w : List ℕ) where
+  abbrev first : Bool → Bool → Answer
+  first l s = firstOf (not l ⇒ Size ∷ not s ⇒ Damaged ∷ []) refused (fine [])
+
+  -- the audit refuses, and so does a call that asks 1 and 5 first
+  pub refused-first : (keep : List ℕ) (os : List Occasion) (x : Outcome) (r : Refusal) → refused r ≡ auditCall w
+      → refusedAt keep r ≡ firstOf (not (legal w) ⇒ Size ∷ not (isSound w) ⇒ Damaged ∷ os) (refusedAt keep) x
+  unfolding auditCall
+  refused-first keep os x r e = go (legal w) (isSound w) e
+    where
+      go : (l s : Bool) → refused r ≡ first l s → refusedAt keep r ≡ firstOf (not l ⇒ Size ∷ not s ⇒ Damaged ∷ os) (refusedAt keep) x
+      go false s e = ap (λ (y : Answer). record { answer = y; after = keep }) e
+      go true false e = ap (λ (y : Answer). record { answer = y; after = keep }) e
+      go true true e = not-fine r [] e
+
+  -- the audit is fine, and the table is sound
+  pub fine-sound : fine [] ≡ auditCall w → Sound w
+  unfolding auditCall isSound
+  fine-sound e = go (legal w) (isSound w) refl e
+    where
+      go : (l s : Bool) → isSound w ≡ s → fine [] ≡ first l s → Sound w
+      go false s q e = not-fine Size [] (sym e)
+      go true false q e = not-fine Damaged [] (sym e)
+      go true true q e = true-yes (sound? w) q

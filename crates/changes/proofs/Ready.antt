@@ -1,0 +1,74 @@
+-- In a sound table each place that a change stores to is in the run.
+-- Assumes nothing.
+use mathlib.Core.Path.{_≡_, sym, ap, _∙_}
+use mathlib.Core.Bool.{true}
+use mathlib.Core.List.{List}
+use mathlib.Core.Logic.{_≢_}
+use Prim.Native.Nat.{ℕ, _-_, _<_, _≤_}
+use native.Mathlib.Omega.{arith}
+use native.Mathlib.Decide.{ℕ-discrete}
+use lib.ListN.{length, set}
+use lib.Seq.{getD-set-same, getD-set-other}
+use Rattle.rules.specs.Table.{_!_, Bare, Table, tableOf}
+use Rattle.rules.specs.Changes.{lastOut}
+use Rattle.rules.specs.History.{Sound, Reached}
+use Rattle.rules.specs.Ids.{occurs, placeOf}
+use Rattle.rules.proofs.Words.{Legal}
+use Rattle.sound.specs.Kept.{Kept}
+use Rattle.sound.specs.Test.{Test, Cut, stood, moved}
+use Rattle.sound.proofs.Reached.{Passes, passes, reached-kept, named-in-use}
+use Rattle.sound.proofs.Sound.{sound-legal, sound-table}
+use Rattle.ids.proofs.Meaning.{placed}
+use Rattle.parts.specs.Shape.{Shape}
+use Rattle.changes.specs.Steps.{Leads, CanTake, CanSeat}
+
+-- the seat taken out last stood last, or what stood last took its place
+last-below : (T : Bare) (b : ℕ) → Cut T (T .used) b → b < T .seats → T .W ! T .used < T .seats
+last-below T b (stood e) h = rw e h
+last-below T b (moved low under o) h = low
+
+place-below : (T : Bare) (b : ℕ) → Cut T (T .used) b → T .used < T .seats → length (T .L) ≡ T .seats → T .W ! T .used < T .seats
+    → set (T .L) (T .W ! T .used) (T .used) ! b < T .seats
+place-below T b c room size low = elim (ℕ-discrete b (T .W ! T .used)) [
+  | yes e ↦ rw e (rw (getD-set-same (T .L) (T .W ! T .used) (T .used) 0 (omega arith)) room)
+  | no ne ↦ rw (getD-set-other (T .L) (T .W ! T .used) b (T .used) 0 ne) (under c ne)
+]
+  where
+    under : Cut T (T .used) b → b ≢ T .W ! T .used → T .L ! b < T .seats
+    under (stood e) ne = absurd (ne (sym e))
+    under (moved low below o) ne = omega arith
+
+pub can-seat : (T : Bare) → Test T → T .used < T .seats → CanSeat T
+can-seat T t room =
+    let i = T .seats - T .used - 1 in
+    let b = t .order .taken i (omega arith) .0 in
+    let at : T .seats - 1 - i ≡ T .used = omega arith in
+    let c : Cut T (T .used) (lastOut T) = rw at at (t .cut i (omega arith)) in
+    let low = last-below T (lastOut T) c b in
+    record { room = room; seat = b; last = low; place = place-below T (lastOut T) c room (t .shape .lenL) low }
+
+pub can-take : (T : Table) (b : ℕ) → Passes T → Kept (T .bare) → b < T .bare .seats → T .S ! b ≢ 0 → CanTake (T .bare) b
+can-take T b p k below named =
+    let s = k .seated b below (named-in-use p below named) in
+    let some = k .shape .some in
+    let most = k .shape .most in
+    record { seat = below; some = some; most = most; place = omega arith; last = k .line (T .bare .used - 1) (omega arith) .0 }
+
+module _ (w : List ℕ) (s : Sound w) where
+  pub long : 1 < length w
+  long = omega (arith, sound-legal s .size)
+
+  pub leads : Leads w (w ! 0)
+  leads = let l = sound-legal s in record { first = λ i. w ! 0; shape = record { size = l .size; most = l .most } }
+
+  pub seatable : w ! 1 ≢ w ! 0 → CanSeat (tableOf w .bare)
+  seatable ne =
+      let t = passes (sound-table s) .test in
+      can-seat (tableOf w .bare) t (omega (arith, t .shape .most))
+
+  pub takeable : (id : ℕ) → id ≢ 0 → occurs id (tableOf w .S) ≡ true → CanTake (tableOf w .bare) (placeOf id (tableOf w .S))
+  takeable id ne o =
+      let r = sound-table s in
+      let p = passes r in
+      let at = placed id (tableOf w .S) o in
+      can-take (tableOf w) _ p (reached-kept r) (omega (arith, at .0, p .ids .size)) (λ z. ne (sym (at .1) ∙ z))

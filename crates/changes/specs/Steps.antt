@@ -1,0 +1,26 @@
+-- What the stores of a change ask of a run: each place that they name is in it.
+use mathlib.Core.Path.{_≡_}
+use mathlib.Core.List.{List}
+use Prim.Native.Nat.{ℕ, _-_, _<_, _≤_}
+use lib.ListN.{set}
+use Rattle.rules.specs.Table.{_!_, Bare}
+use Rattle.rules.specs.Changes.{lastOut}
+use Rattle.parts.specs.Shape.{Shape}
+
+-- a run for a seats that says so
+pub record Leads (w : List ℕ) (a : ℕ) : Type 0 where
+  pub first : w ! 0 ≡ a
+  pub shape : Shape w a
+
+pub record CanTake (T : Bare) (b : ℕ) : Type 0 where
+  pub seat : b < T .seats
+  pub some : 1 ≤ T .used
+  pub most : T .used ≤ T .seats
+  pub place : T .L ! b < T .seats
+  pub last : T .W ! (T .used - 1) < T .seats
+
+pub record CanSeat (T : Bare) : Type 0 where
+  pub room : T .used < T .seats
+  pub seat : lastOut T < T .seats
+  pub last : T .W ! T .used < T .seats
+  pub place : set (T .L) (T .W ! T .used) (T .used) ! lastOut T < T .seats
