@@ -14,7 +14,6 @@ sizeOf w = cond (legal w) (Seats (w ! 0)) Illegal
 
 -- a run for a seats
 pub record Shape (w : List ℕ) (a : ℕ) : Type 0 where
-  pub first : w ! 0 ≡ a
   pub size : length w ≡ runLength a
   pub most : a ≤ mostSeats
 

@@ -79,7 +79,7 @@ tableOf-words T all =
 pub part-fits : (a k : ℕ) → k < 6 → base a k + a ≤ runLength a
 part-fits a k h = omega (arith, mul-le-mul-right a h, suc-mul k a)
 
-part-length : (w : List ℕ) (k : ℕ) → length w ≡ runLength (w ! 0) → k < 6 → length (part (w ! 0) k w) ≡ w ! 0
+pub part-length : (w : List ℕ) (k : ℕ) → length w ≡ runLength (w ! 0) → k < 6 → length (part (w ! 0) k w) ≡ w ! 0
 part-length w k size h = simp (length-take, length-drop, size) (min-eq-left (omega (arith, part-fits (w ! 0) k h)))
 
 pub sized-tableOf : (w : List ℕ) → length w ≡ runLength (w ! 0) → All (w ! 0) (parts (tableOf w))
@@ -101,8 +101,12 @@ stored {s = s} {u = u} {a = a} {ps = ps} e all k i v hk hi e′ =
     e′ ∙ ap₂ (λ (l : List ℕ) (n : ℕ). set l n v) e (past k a i)
     ∙ ap (λ (l : List ℕ). s ∷ u ∷ l) (set-joined all k i v hk hi)
 
--- a read at i of a part that is lent
-pub part-lent : (w : List ℕ) (a k i : ℕ) → w ! 0 ≡ a → i < a → take (base a k + a - base a k) (drop (base a k) w) ! i ≡ part (w ! 0) k w ! i
-part-lent w a k i e h =
+-- a part's word is a word of the run
+pub part-word : (w : List ℕ) (a k i : ℕ) → i < a → part a k w ! i ≡ w ! (base a k + i)
+part-word w a k i h = rw (getD-take, getD-drop) refl
+
+-- a part that is lent
+pub part-lent : (w : List ℕ) (a k : ℕ) → take (base a k + a - base a k) (drop (base a k) w) ≡ part a k w
+part-lent w a k =
     let l : base a k + a - base a k ≡ a = omega arith in
-    rw (l, e) refl
+    rw l refl

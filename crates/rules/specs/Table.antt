@@ -63,11 +63,13 @@ mostSeats = 2048
 abbrev pub part : ℕ → ℕ → List ℕ → List ℕ
 part a p w = take a (drop (base a p) w)
 
--- a run of words read as a table
-abbrev pub tableOf : List ℕ → Table
-tableOf w =
-    let a = w ! 0 in
+-- a run of words read as a table: of a seats, and of as many as its word 0 says
+abbrev pub tableFor : ℕ → List ℕ → Table
+tableFor a w =
     record { bare = record { seats = a; used = w ! 1; A = part a 0 w; K = part a 1 w; W = part a 2 w; L = part a 3 w; R = part a 4 w }; S = part a 5 w }
+
+abbrev pub tableOf : List ℕ → Table
+tableOf w = tableFor (w ! 0) w
 
 -- legal shape: a from 1 to 2,048, and the run is 2 + 6a words; a run shorter than two words is not
 abbrev pub legal : List ℕ → Bool

@@ -1,15 +1,11 @@
--- `parts::word` meets its contract: a place of a lent part is a place of the run.
+-- `parts::word` meets its contract: what is lent is the part.
 -- Assumes nothing.
 use borrow.Author.Needs.{needs}
-use mathlib.Core.Path.{_∙_}
-use Rattle.rules.proofs.Words.{part-lent}
 use Rattle.parts.proofs.word.Statement.{statement}
 use Rattle.parts.proofs.word.Tie as tie
 
 returns : tie.Need-returns
-returns c =
-    let s = c .before .before .before in
-    c .word-at .ensures ∙ part-lent (s .args .t .now) (s .args .a) (s .args .k) (s .args .i) (s .pre .0 .first) (search needs)
+returns c = cc
 
 pub word-spec : {M : Type 1} → statement M
-word-spec = tie.close (tie.spec (λ c. search needs) (λ c. search needs) (λ c. search needs) (λ c. search needs) (λ c. search needs) (λ c. search needs) (λ c. search needs) (λ c κs. search needs) returns)
+word-spec = tie.close (tie.spec (λ c κs. search needs) (λ c. search needs) (λ c. search needs) returns)
