@@ -1,5 +1,6 @@
 -- Document 01, 'Numbers a call can answer'.
-use mathlib.Core.List.{List, []}
+use mathlib.Core.Bool.{Bool, cond}
+use mathlib.Core.List.{List, [], _∷_}
 use Prim.Native.Nat.{ℕ}
 use Rattle.rules.specs.declared.Refusal.{Refusal}
 use Rattle.rules.specs.declared.Refusal.the-variants.{Size, Count, Id, Twice, Damaged, Full, Absent, Last, Room, Form}
@@ -28,3 +29,27 @@ fine vs = record { number = 0; values = vs }
 -- a refusal answers its number with no other value
 abbrev pub refused : Refusal → Answer
 refused r = record { number = numberOf r; values = [] }
+
+-- what a call leaves: its answer, and the lent words or bytes after it
+pub record Outcome : Type 0 where
+  pub answer : Answer
+  pub after : List ℕ
+
+-- a refusal leaves all lent memory unchanged
+abbrev pub refusedAt : List ℕ → Refusal → Outcome
+refusedAt w r = record { answer = refused r; after = w }
+
+abbrev pub done : List ℕ → List ℕ → Outcome
+done vs w = record { answer = fine vs; after = w }
+
+infix 70 _⇒_
+-- when a refusal applies
+pub data Occasion : Type 0 where
+  _⇒_ : Bool → Refusal → Occasion
+
+-- the first that applies, in this order; else the call is done
+abbrev pub firstOf {ℓ} : {X : Type ℓ} → List Occasion → (Refusal → X) → X → X
+firstOf [] refuse x = x
+firstOf ((applies ⇒ r) ∷ os) refuse x =
+    let more = firstOf os refuse x in
+    cond applies (refuse r) more

@@ -3,5 +3,6 @@ pub mod Table
 pub mod Changes
 pub mod History
 pub mod Keys
+pub mod Ids
 pub mod Answers
 pub mod Examples

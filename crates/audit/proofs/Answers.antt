@@ -1,0 +1,90 @@
+-- The audit's answer, by what is known of the run.
+-- Assumes nothing.
+use mathlib.Core.Path.{_≡_, refl, sym, subst}
+use mathlib.Core.Bool.{Bool, true, false}
+use mathlib.Core.List.{List, []}
+use Prim.Native.Nat.{ℕ, _<_, _≤_, _^_}
+use native.Mathlib.Omega.{arith}
+use lib.ListN.{length}
+use Rattle.rules.specs.Table.{_!_, tableFor, legal}
+use Rattle.rules.specs.History.{Sound}
+use Rattle.rules.specs.Ids.{repeats}
+use Rattle.rules.specs.Answers.{fine, refused}
+use Rattle.rules.specs.declared.Refusal.the-variants.{Size, Damaged}
+use Rattle.rules.proofs.Words.{Legal, is-legal}
+use Rattle.parts.specs.Shape.{sizeOf, Shape}
+use Rattle.parts.specs.declared.Size.the-variants.{Seats}
+use Rattle.parts.proofs.Sized.{legal-seats, shaped}
+use Rattle.ids.proofs.Meaning.{true-or-false}
+use Rattle.sound.proofs.Sound.{sound?}
+use Rattle.audit.specs.Decides.{decided}
+use Rattle.audit.specs.Pass.{Counted, AllPass}
+use Rattle.audit.proofs.Exact.{Pass, pass-sound, sound-pass}
+use Rattle.audit.specs.Audit.{isSound, audit}
+
+yes-true : {P : Type 0} (d : Dec P) → P → decided d ≡ true
+yes-true (yes p) q = refl
+yes-true (no n) q = absurd (n q)
+
+no-false : {P : Type 0} (d : Dec P) → (P → ⊥) → decided d ≡ false
+no-false (yes p) n = absurd (n p)
+no-false (no m) n = refl
+
+module _ (w : List ℕ) where
+  pub is-sound : Sound w → isSound w ≡ true
+  unfolding isSound
+  is-sound s = yes-true (sound? w) s
+
+  pub not-sound : (Sound w → ⊥) → isSound w ≡ false
+  unfolding isSound
+  not-sound n = no-false (sound? w) n
+
+  pub audit-size : legal w ≡ false → refused Size ≡ audit w
+  unfolding audit
+  audit-size l = rw l refl
+
+  module _ (l : legal w ≡ true) where
+    pub audit-damaged : (Sound w → ⊥) → refused Damaged ≡ audit w
+    unfolding audit
+    audit-damaged n = rw (l, not-sound n) refl
+
+    pub audit-fine : Sound w → fine [] ≡ audit w
+    unfolding audit
+    audit-fine s = rw (l, is-sound s) refl
+
+-- the same, by what the code has seen of a run for a seats
+module _ (w : List ℕ) (a : ℕ) (size : sizeOf w ≡ Seats a) where
+  is-a : w ! 0 ≡ a
+  is-a = legal-seats w a size .1
+
+  known : Legal w
+  known = is-legal w (legal-seats w a size .0)
+
+  pub long : 1 < length w
+  long = omega (arith, known .some, known .size)
+
+  pub shape : Shape w a
+  shape = subst (λ (n : ℕ). Shape w n) is-a (shaped w (legal-seats w a size .0))
+
+  pub counted : 1 ≤ w ! 1 → w ! 1 ≤ a → Counted w a (w ! 1)
+  counted some most = record { shape = shape; isN = refl; some = some; most = most }
+
+  refuse : (Pass w → ⊥) → refused Damaged ≡ audit w
+  refuse n = audit-damaged w (legal-seats w a size .0) (λ s. n (sound-pass w known s))
+
+  pub none-used : w ! 1 < 1 → refused Damaged ≡ audit w
+  none-used h = refuse (λ p. omega (arith, p .some))
+
+  pub more-used : a < w ! 1 → refused Damaged ≡ audit w
+  more-used h = refuse (λ p. omega (arith, p .most, is-a))
+
+  pub one-fails : (AllPass (tableFor a w) a → ⊥) → refused Damaged ≡ audit w
+  one-fails n = refuse (λ p. n (subst (λ (n : ℕ). AllPass (tableFor n w) n) is-a (p .all)))
+
+  pub id-twice : repeats (tableFor a w .S) ≡ true → refused Damaged ≡ audit w
+  id-twice r = refuse (λ p. true-or-false (repeats (tableFor a w .S)) r (subst (λ (n : ℕ). repeats (tableFor n w .S) ≡ false) is-a (p .once)))
+
+  pub all-well : ((i : ℕ) → w ! i < 2 ^ 32) → Counted w a (w ! 1) → AllPass (tableFor a w) a → repeats (tableFor a w .S) ≡ false → fine [] ≡ audit w
+  all-well word c p r =
+      audit-fine w (legal-seats w a size .0) (pass-sound w known
+      (record { some = c .some; most = rw is-a (c .most); all = subst (λ (n : ℕ). AllPass (tableFor n w) n) (sym is-a) p; once = subst (λ (n : ℕ). repeats (tableFor n w .S) ≡ false) (sym is-a) r }) word)

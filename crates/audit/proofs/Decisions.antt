@@ -1,0 +1,75 @@
+-- Decisions of statements that are told in parts.
+-- Assumes nothing.
+use mathlib.Core.Path.{_≡_, refl, _∙_}
+use mathlib.Core.Logic.{_≢_}
+use mathlib.Core.Bool.{Bool, true, false, _&&_}
+use Prim.Native.Nat.{ℕ, suc, _+_, _-_, _<_, _≤_, max}
+use native.Mathlib.Omega.{arith}
+use borrow.Author.Count.{below-more}
+use native.Mathlib.Decide.{ℕ-discrete}
+use Rattle.rules.specs.Table.{_!_, Bare, Table}
+use Rattle.sound.specs.Test.{Owes, gone, stays, Cut, stood, moved}
+use Rattle.sound.proofs.Audit.{owes-stays}
+use Rattle.audit.specs.Decides.{Decides}
+use Rattle.audit.specs.Pass.{Stands, SeatPasses, Removed, RemovalPasses, AllPass}
+
+-- what a test's answer says
+pub decides-true : {P : Type 0} (t : Bool) → t ≡ true → Decides t P → P
+decides-true true e p = p
+decides-true false e n = let z : _≡_ {A = ℕ} 0 1 = cc in absurd (omega arith)
+
+pub decides-false : {P : Type 0} (t : Bool) → t ≡ false → Decides t P → P → ⊥
+decides-false true e p = let z : _≡_ {A = ℕ} 0 1 = cc in absurd (omega arith)
+decides-false false e n = n
+
+-- the seat that stood last moved, if it is another
+has-moved : {T : Bare} {p b : ℕ} → Cut T p b → T .W ! p ≢ b → Owes T (T .W ! p) (T .L ! b)
+has-moved (stood e) other = absurd (other e)
+has-moved (moved low under o) other = o
+
+pub moved-low : {T : Bare} {p b : ℕ} → Cut T p b → T .W ! p ≢ b → T .W ! p < T .seats
+moved-low (stood e) other = absurd (other e)
+moved-low (moved low under o) other = low
+
+pub moved-under : {T : Bare} {p b : ℕ} → Cut T p b → T .W ! p ≢ b → T .L ! b < p
+moved-under (stood e) other = absurd (other e)
+moved-under (moved low under o) other = under
+
+pub decides-iff : {P Q : Type 0} (r : Bool) → (P → Q) → (Q → P) → Decides r P → Decides r Q
+decides-iff true f g p = f p
+decides-iff false f g n = λ q. n (g q)
+
+-- a seat that leaves later than q was cut off, or never, owes q where it stands there
+pub owes-stands : (T : Bare) (x q : ℕ) (r : Bool) → T .A ! x < max q 1 → Decides r (Stands T x q) → Decides r (Owes T x q)
+owes-stands T x q r h d = decides-iff r (λ s. stays h (s .there) (s .placed)) (λ o. let s = owes-stays o h in record { there = s .0; placed = s .1 }) d
+
+pub seat-used : (T : Table) (x : ℕ) (r : Bool) → T .bare .A ! x ≡ 0 → T .S ! x ≢ 0 → T .bare .K ! x ≡ x → Decides r (Owes (T .bare) x x) → Decides r (SeatPasses T x)
+seat-used T x r in-use named own = decides-iff r (λ o. record { used = λ e. (named, own); out = λ ne. absurd (ne in-use); start = o }) (λ s. s .start)
+
+pub seat-out : (T : Table) (x : ℕ) (r : Bool) → T .bare .A ! x ≢ 0
+    → (T .S ! x ≡ 0) × (T .bare .used ≤ T .bare .A ! x) × (T .bare .A ! x < T .bare .seats) × (T .bare .R ! (T .bare .seats - 1 - T .bare .A ! x) ≡ x)
+    → Decides r (Owes (T .bare) x x) → Decides r (SeatPasses T x)
+seat-out T x r left words = decides-iff r (λ o. record { used = λ e. absurd (left e); out = λ ne. words; start = o }) (λ s. s .start)
+
+-- another seat than b stood last, and took its place
+pub removed-moved : (T : Bare) (i b last q : ℕ) (r : Bool) → last ≡ T .W ! (T .seats - 1 - i) → q ≡ T .L ! b
+    → b < T .seats → T .A ! b ≡ T .seats - 1 - i → T .K ! b ≡ last → last ≢ b → last < T .seats → q < T .seats - 1 - i
+    → Decides r (Owes T last q) → Decides r (Removed T i b)
+removed-moved T i b last q r is-last is-q below dated lastK other low under =
+    decides-iff r
+    (λ o. record { below = below; dated = dated; lastK = lastK ∙ is-last; cut = moved (rw is-last at low) (rw is-q at under) (rw (is-last, is-q) at o) })
+    (λ m. rw (← is-last, ← is-q) at (has-moved (m .cut) (rw is-last at other)))
+
+pub removal-taken : (T : Bare) (i b : ℕ) (r : Bool) → b ≡ T .R ! i → i < T .seats - T .used → Decides r (Removed T i b) → Decides r (RemovalPasses T i)
+removal-taken T i b r is-b early =
+    decides-iff r (λ m. record { taken = λ h. rw is-b at m; rest = λ h. absurd (omega arith) }) (λ p. rw is-b (p .taken early))
+
+-- what passes below i, and i, pass below i + 1
+pub pass-none : (T : Table) → AllPass T 0
+pass-none T = record { seats = λ x h. absurd (omega arith); removals = λ i h. absurd (omega arith) }
+
+pub pass-more : (T : Table) (i : ℕ) (ok s r : Bool) → Decides ok (AllPass T i) → Decides s (SeatPasses T i) → Decides r (RemovalPasses (T .bare) i) → Decides ((ok && s) && r) (AllPass T (i + 1))
+pass-more T i false s r n ds dr = λ p. n (record { seats = λ x h. p .seats x (omega arith); removals = λ x h. p .removals x (omega arith) })
+pass-more T i true false r a n dr = λ p. n (p .seats i (omega arith))
+pass-more T i true true false a ds n = λ p. n (p .removals i (omega arith))
+pass-more T i true true true a ds dr = record { seats = below-more _ _ (a .seats) ds; removals = below-more _ _ (a .removals) dr }

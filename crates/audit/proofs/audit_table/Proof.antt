@@ -1,0 +1,69 @@
+-- `audit::audit_table` meets its contract: it makes the pass of `Exact`, which a run of legal shape passes if and only if it is sound.
+-- Assumes nothing.
+use native.Mathlib.Omega.{arith}
+use borrow.Author.Needs.{needs}
+use mathlib.Core.Path.{_≡_, sym, _∙_}
+use Rattle.parts.specs.Shape.{sizeOf}
+use Rattle.parts.specs.declared.Size.the-variants.{Seats}
+use Rattle.parts.proofs.Sized.{illegal}
+use Rattle.audit.proofs.Decisions.{decides-true, decides-false}
+use Rattle.audit.proofs.Answers.{audit-size, long, shape, counted, none-used, more-used, one-fails, id-twice, all-well}
+use Rattle.audit.proofs.audit_table.Statement.{statement}
+use Rattle.audit.proofs.audit_table.Tie as tie
+
+-- what is known once the size is
+size : (c : tie.After-a) → sizeOf (c .before .before .before .before .args .t .now) ≡ Seats (c .a .given .0 .0)
+size c = sym (c .before .before .size-of .ensures) ∙ c .a .given .1
+
+returns : tie.Need-returns
+returns c = audit-size _ (illegal _ (sym (c .before .before .size-of .ensures) ∙ c .enum-told .given .1))
+
+shared-slice-read-n : tie.Need-shared-slice-read-n
+shared-slice-read-n c = long _ _ (size (c .before .before))
+
+cast-n : tie.Need-cast-n
+cast-n c = omega (arith, c .shared-slice-known2 .given 1)
+
+returns-2 : tie.Need-returns-2
+returns-2 c = none-used _ _ (size (c .before .before .before)) (search needs)
+
+returns-3 : tie.Need-returns-3
+returns-3 c = more-used _ _ (size (c .before .before .before .before)) (search needs)
+
+all-pass-requires : tie.Need-all-pass-requires
+all-pass-requires c κs = counted _ _ (size (c .before .before .before .before)) (search needs) (search needs)
+
+ids-repeat-requires : tie.Need-ids-repeat-requires
+ids-repeat-requires c κs = shape _ _ (size (c .before .before .before .before .before .before))
+
+returns-4 : tie.Need-returns-4
+returns-4 c = id-twice _ _ (size (c .before .before .before .before .before .before .before .before)) (sym (c .before .ids-repeat .ensures) ∙ c .if4 .taken)
+
+returns-5 : tie.Need-returns-5
+returns-5 c =
+    let t = c .before .before in
+    let n = t .before .before .before .before in
+    let a = n .before .before in
+    all-well _ _ (size a) (λ i. omega (arith, n .shared-slice-known2 .given i)) (counted _ _ (size a) (search needs) (search needs)) (decides-true _ (t .if3 .taken) (t .before .all-pass .ensures))
+    (sym (c .before .ids-repeat .ensures) ∙ c .if4 .left)
+
+returns-6 : tie.Need-returns-6
+returns-6 c = one-fails _ _ (size (c .before .before .before .before .before .before)) (decides-false _ (c .if3 .left) (c .before .all-pass .ensures))
+
+pub audit-table-spec : {M : Type 1} → statement M
+audit-table-spec =
+    tie.close
+    (tie.spec
+    (λ c κs. search needs)
+    (λ c. search needs)
+    (λ c. search needs)
+    returns
+    shared-slice-read-n
+    cast-n
+    returns-2
+    returns-3
+    all-pass-requires
+    ids-repeat-requires
+    returns-4
+    returns-5
+    returns-6)

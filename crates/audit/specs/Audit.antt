@@ -1,0 +1,25 @@
+-- Document 01, 'Numbers a call can answer': the audit, 1, 5.
+use mathlib.Core.Bool.{Bool, not}
+use mathlib.Core.List.{List, [], _∷_}
+use Prim.Native.Nat.{ℕ}
+use Rattle.rules.specs.Table.{legal}
+use Rattle.rules.specs.History.{Sound}
+use Rattle.rules.specs.Answers.{Answer, fine, refused, _⇒_, firstOf}
+use Rattle.rules.specs.declared.Refusal.the-variants.{Size, Damaged}
+use Rattle.sound.proofs.Sound.{sound?}
+use Rattle.audit.specs.Decides.{decided}
+use Rattle.audit.specs.declared.Audited.{Audited}
+use Rattle.audit.specs.declared.Audited.the-variants as audited
+
+-- are these words sound? `sound?` decides it: it is a proof of `Sound w`, or of its contrary
+unfoldable pub isSound : List ℕ → Bool
+isSound w = decided {P = Sound w} (sound? w)
+
+-- the number and the values of each answer
+abbrev pub answerOf : Audited → Answer
+answerOf audited.Sound = fine []
+answerOf (audited.Refused r) = refused r
+
+unfoldable pub audit : List ℕ → Answer
+unfolding isSound
+audit w = firstOf (not (legal w) ⇒ Size ∷ not (isSound w) ⇒ Damaged ∷ []) refused (fine [])

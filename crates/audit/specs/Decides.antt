@@ -1,0 +1,10 @@
+-- What a test that answers yes or no says of a statement.
+use mathlib.Core.Bool.{Bool, true, false}
+
+abbrev pub Decides : Bool → Type 0 → Type 0
+Decides true P = P
+Decides false P = P → ⊥
+
+abbrev pub decided : {P : Type 0} → Dec P → Bool
+decided (yes p) = true
+decided (no n) = false

@@ -1,0 +1,3 @@
+pub mod Decides
+pub mod Pass
+pub mod Audit

@@ -1,0 +1,7 @@
+-- Both rules agree, since they go from seat to seat together.
+-- Assumes nothing.
+use Rattle.lookups.specs.BothRules.{BothRules}
+use Rattle.lookups.proofs.Finds.{every}
+
+pub theorem : BothRules
+theorem T r pick first picks i = every T r pick first picks i .agrees

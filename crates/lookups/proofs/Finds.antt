@@ -1,0 +1,70 @@
+-- The two rules go from seat to seat together: at a seat out of use the walk ends at the seat that stood at the position drawn.
+-- A falls at each redraw, and is at least N until it is 0; so the redraws end on a seat in use, and are a - N at most.
+-- Assumes nothing.
+use mathlib.Core.Path.{_≡_, refl, sym, subst}
+use mathlib.Core.List.{List, []}
+use mathlib.Core.Logic.{inl, inr}
+use Prim.Native.Nat.{ℕ, zero, suc, _+_, _-_, _<_, _≤_}
+use native.Mathlib.Omega.{arith}
+use native.Mathlib.Decide.{ℕ-discrete}
+use borrow.Author.Tests.{ne-eqb}
+use Rattle.rules.specs.Table.{_!_, Bare}
+use Rattle.rules.specs.Keys.{Move, full, movesOf, since, Found, on, draw, Looked, found, lookup}
+use Rattle.sound.specs.Kept.{Kept}
+use Rattle.sound.proofs.Lists.{zeros-at}
+use Rattle.sound.proofs.Passes.{test-full}
+use Rattle.sound.proofs.Reached.{reached-kept}
+use Rattle.lookups.specs.EveryKey.{Draws, EveryKey}
+use Rattle.lookups.proofs.Walks.{walk-end, lookup-here, gone}
+use Rattle.lookups.proofs.Since.{Lines, lines-since}
+use Rattle.lookups.proofs.Leads.{leads-seats, history-leads}
+
+-- what both rules find after d draws, with c redraws at most
+pub record Finds (T : Bare) (d c : ℕ) (looked : Looked) (f : Found) : Type 0 where
+  pub agrees : looked ≡ found f
+  pub below : f .seat < T .seats
+  pub inUse : T .A ! f .seat ≡ 0
+  pub some : d ≤ f .draws
+  pub most : f .draws ≤ d + c
+
+module _ (T : Bare) (ms : List Move) (pick : ℕ → ℕ → ℕ) (picks : Draws pick) (g : Kept T) (lines : Lines T (λ x. since x [] (full (T .seats)) ms)) where
+  abbrev next : ℕ → ℕ
+  next b = since b [] (full (T .seats)) ms ! pick b (T .A ! b)
+
+  draw-here : (fuel d b : ℕ) → T .A ! b ≡ 0 → draw T ms pick fuel d b ≡ on b d
+  unfolding draw
+  draw-here zero d b z = refl
+  draw-here (suc fuel) d b z = rw z
+
+  here : (fuel more c d b : ℕ) → b < T .seats → T .A ! b ≡ 0 → Finds T d c (lookup (T .A) (T .K) pick fuel d b) (draw T ms pick more d b)
+  here fuel more c d b i z = rw (lookup-here (T .A) (T .K) pick fuel d b z, draw-here more d b z)
+      (record { agrees = refl; below = i; inUse = z; some = omega arith; most = omega arith })
+
+  pub finds : (fuel more c d b : ℕ) → b < T .seats → T .A ! b ≤ fuel → T .A ! b ≤ more → suc (T .A ! b) ≤ T .used + c
+      → Finds T d c (lookup (T .A) (T .K) pick fuel d b) (draw T ms pick more d b)
+  unfolding draw lookup
+  finds zero more c d b i h l m = here zero more c d b i (omega arith)
+  finds (suc fuel) zero c d b i h l m = here (suc fuel) zero c d b i (omega arith)
+  finds (suc fuel) (suc more) c d b i h l m = elim (ℕ-discrete (T .A ! b) 0) [
+    | yes z ↦ here (suc fuel) (suc more) c d b i z
+    | no ne ↦
+        let lenA = g .shape .lenA in
+        let w = lines b (pick b (T .A ! b)) (picks b _ (omega arith)) in
+        let end = walk-end (T .A) (T .K) (T .A ! b) (T .seats) _ w in
+        let late = gone g b ne in
+        let r = finds fuel more (c - 1) (d + 1) (next b) (omega arith) (omega arith) (omega arith) (omega arith) in
+        rw (ne-eqb (T .A ! b) 0 ne, lenA, w)
+        (record { agrees = r .agrees; below = r .below; inUse = r .inUse; some = omega (arith, r .some); most = omega (arith, r .most) })
+  ]
+
+-- from the first seat, on every table that a history leaves
+pub every : EveryKey (λ T looked f. Finds (T .bare) 1 (T .bare .seats - T .bare .used) looked f)
+every T r pick first picks i =
+    let U = T .bare in
+    let ms = movesOf (r .a) (r .ids) (r .history) in
+    let g = reached-kept r in
+    let run = history-leads r in
+    let lines = lines-since run (test-full (r .a) (omega (arith, r .opens))) (λ x. []) (λ x q h. absurd (omega (arith, zeros-at (r .a) x))) in
+    let low : U .A ! first < U .seats = elim (g .order .each first i) [ inl z ↦ omega arith | inr o ↦ o .1 ] in
+    finds U ms pick picks g (subst (λ (a : ℕ). Lines U (λ x. since x [] (full a) ms)) (sym (leads-seats run)) lines)
+    (U .A ! first) (U .seats) (U .seats - U .used) 1 first i (omega arith) (omega arith) (omega arith)

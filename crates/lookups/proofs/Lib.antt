@@ -1,0 +1,12 @@
+-- Laws.
+pub mod Walks
+pub mod Front
+pub mod Leads
+pub mod Since
+pub mod Finds
+-- Theorems.
+pub mod EveryKey
+pub mod BothRules
+pub mod InUse
+pub mod FewDraws
+pub mod Stay

@@ -1,0 +1,26 @@
+-- Demand 3: "And with definition 2's lookup: taking a server out moves only keys that were on its seat, and seating one moves
+-- keys only to its seat."
+use mathlib.Core.Path.{_≡_}
+use mathlib.Core.Logic.{_≢_, _⊎_}
+use Prim.Native.Nat.{ℕ}
+use Rattle.rules.specs.Table.{Table}
+use Rattle.rules.specs.Changes.{takeOut, seatId}
+use Rattle.rules.specs.History.{Takes, Seats, Reached}
+use Rattle.rules.specs.Keys.{Looked, found, on, arrayRule}
+
+-- a key's answer with seat b in use, and its answer with b out of use
+pub record OnlyOn (b : ℕ) (with without : Looked) : Type 0 where
+  -- they are the same, or the key is on b
+  pub either : (without ≡ with) ⊎ ((d : ℕ) × (with ≡ found (on b d)))
+  -- so a key that is on another seat keeps its seat and its draws
+  pub others : (x d : ℕ) → x ≢ b → with ≡ found (on x d) → without ≡ found (on x d)
+
+abbrev pub TakingOut : Type 0
+TakingOut =
+    (T : Table) (id b : ℕ) (pick : ℕ → ℕ → ℕ) (first : ℕ) → Reached T → Takes T id b
+    → OnlyOn b (arrayRule (T .bare) pick first) (arrayRule (takeOut T b .bare) pick first)
+
+abbrev pub Seating : Type 0
+Seating =
+    (T : Table) (id b : ℕ) (pick : ℕ → ℕ → ℕ) (first : ℕ) → Reached T → Seats T id b
+    → OnlyOn b (arrayRule (seatId T id .bare) pick first) (arrayRule (T .bare) pick first)
