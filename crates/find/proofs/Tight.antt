@@ -1,6 +1,6 @@
 -- The promise of `find_server` leaves one result: an answer's number and values say which result it is.
 -- Assumes nothing.
-use mathlib.Core.Path.{_≡_, refl, sym, ap, _∙_}
+use mathlib.Core.Path.{_≡_, sym, ap, _∙_}
 use mathlib.Core.List.{List}
 use Prim.Native.Nat.{ℕ}
 use native.Mathlib.Omega.{arith}
@@ -11,7 +11,7 @@ use Rattle.find.specs.declared.Lookup.the-variants.{On, Refused}
 use Rattle.find.specs.Find.{answerOf, find}
 
 number-same : {x y : Answer} → x ≡ y → x .number ≡ y .number
-number-same e = ap (λ (x : Answer). x .number) e
+number-same e = ap (λ (a : Answer). a .number) e
 
 pub answerOf-injective : (r s : Lookup) → answerOf r ≡ answerOf s → r ≡ s
 answerOf-injective (On b x d) (On c y e) h =
