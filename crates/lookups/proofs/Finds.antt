@@ -15,7 +15,8 @@ use Rattle.sound.proofs.Lists.{zeros-at}
 use Rattle.sound.proofs.Passes.{test-full}
 use Rattle.sound.proofs.Reached.{reached-kept}
 use Rattle.lookups.specs.EveryKey.{Draws, EveryKey}
-use Rattle.lookups.proofs.Walks.{walk-end, lookup-here, gone}
+use Rattle.rules.proofs.Walks.{walk-end, lookup-here}
+use Rattle.lookups.proofs.Walks.{gone}
 use Rattle.lookups.proofs.Since.{Lines, lines-since}
 use Rattle.lookups.proofs.Leads.{leads-seats, history-leads}
 

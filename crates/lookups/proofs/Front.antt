@@ -18,7 +18,8 @@ use Rattle.sound.proofs.Written.{Written, written}
 use Rattle.sound.proofs.KeptOut.{kept-full, kept-out}
 use Rattle.sound.proofs.Made.{fewer-still, after-is, next-leaves}
 use Rattle.sound.proofs.Audit.{R-takeable, as-made}
-use Rattle.lookups.proofs.Walks.{walkIn, walk-stops, walk-goes, walk-on}
+use Rattle.rules.proofs.Walks.{walk-stops, walk-goes}
+use Rattle.lookups.proofs.Walks.{walkIn, walk-on}
 
 -- a walk follows K once for each removal at most
 abbrev pub Front : Bare → Type 0

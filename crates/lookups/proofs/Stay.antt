@@ -15,7 +15,8 @@ use Rattle.sound.proofs.Written.{Written, written}
 use Rattle.sound.proofs.Steps.{kept, seat-passes, out-of-seat}
 use Rattle.sound.proofs.Reached.{passes, leaves, reached-kept}
 use Rattle.lookups.specs.Stay.{OnlyOn, TakingOut, Seating}
-use Rattle.lookups.proofs.Walks.{walkIn, lookup-here, gone, length-out, walk-out}
+use Rattle.rules.proofs.Walks.{lookup-here}
+use Rattle.lookups.proofs.Walks.{walkIn, gone, length-out, walk-out}
 use Rattle.lookups.proofs.Since.{seat-leaves}
 
 abbrev Either : ℕ → Looked → Looked → Type 0

@@ -3,7 +3,7 @@
 use mathlib.Core.Path.{_≡_, refl, ap}
 use mathlib.Core.Bool.{Bool, true, false, cond}
 use mathlib.Core.List.{List}
-use Prim.Native.Nat.{ℕ}
+use Prim.Native.Nat.{ℕ, _≤_}
 use native.Mathlib.Omega.{arith}
 use Rattle.rules.specs.Table.{_!_, legal}
 use Rattle.parts.specs.Shape.{sizeOf, Shape}
@@ -29,3 +29,15 @@ legal-seats w a e = go (legal w) e
 
 pub shaped : (w : List ℕ) → legal w ≡ true → Shape w (w ! 0)
 shaped w e = let l = is-legal w e in record { size = l .size; most = l .most }
+
+-- all that it tells where it answers a
+pub record Told (w : List ℕ) (a : ℕ) : Type 0 where
+  pub isLegal : legal w ≡ true
+  pub first : w ! 0 ≡ a
+  pub shape : Shape w a
+  pub some : 1 ≤ a
+
+pub told-seats : (w : List ℕ) (a : ℕ) → sizeOf w ≡ Seats a → Told w a
+told-seats w a e =
+    let l = legal-seats w a e in
+    record { isLegal = l .0; first = l .1; shape = rw (l .1) at (shaped w (l .0)); some = rw (l .1) at (is-legal w (l .0) .some) }

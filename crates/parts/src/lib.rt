@@ -1,6 +1,6 @@
 // The parts of a lent run: its shape, and reads and stores in each part, with seats and positions kept apart.
 ghost use mathlib.Core.Path.{_≡_};
-ghost use Prim.Native.Nat.{_+_, _<_};
+ghost use Prim.Native.Nat.{_+_, _<_, _≤_};
 ghost use lib.ListN.{length, set};
 ghost use Rattle.rules.specs.Table.{_!_, base, part, tableFor};
 ghost use Rattle.parts.specs.Shape.{sizeOf, Shape, Lent};
@@ -10,17 +10,17 @@ use rules::Seat;
 pub const MOST_SEATS: usize = 2048;
 
 // The number of each part, in its order.
-const A: usize = 0;
+pub const A: usize = 0;
 
-const K: usize = 1;
+pub const K: usize = 1;
 
-const W: usize = 2;
+pub const W: usize = 2;
 
-const L: usize = 3;
+pub const L: usize = 3;
 
-const R: usize = 4;
+pub const R: usize = 4;
 
-const S: usize = 5;
+pub const S: usize = 5;
 
 pub enum Size {
     Seats(usize),
@@ -48,13 +48,6 @@ pub fn size_of(t: &[u32]) -> Size
     }
 }
 
-fn word_at(part: &[u32], i: usize) -> u32
-    requires { ⌜ i < length (now part) ⌝ }
-    ensures { λ r. ⌜ r ≡ now (part .entry) ! i ⌝ }
-{
-    part[i]
-}
-
 fn put_at(part: &mut [u32], i: usize, v: u32)
     requires { ⌜ i < length (now part) ⌝ }
     ensures { λ _. ⌜ now (part .exit) ≡ set (now (part .entry)) i v ⌝ }
@@ -62,13 +55,22 @@ fn put_at(part: &mut [u32], i: usize, v: u32)
     part[i] = v;
 }
 
+// Part k, lent.
+pub fn lend(t: &[u32], a: usize, k: usize) -> &[u32]
+    requires { ⌜ base a k + a ≤ length (now t) ⌝ }
+    ensures { λ r. ⌜ (now r ≡ part a k (now (t .entry))) × (length (now r) ≡ a) ⌝ }
+{
+    let lo = 2 + k * a;
+    &t[lo..lo + a]
+}
+
 // Word i of part k.
 fn word(t: &[u32], a: usize, k: usize, i: usize) -> u32
     requires { ⌜ Lent (now t) a k i ⌝ }
     ensures { λ r. ⌜ r ≡ part a k (now (t .entry)) ! i ⌝ }
 {
-    let lo = 2 + k * a;
-    word_at(&t[lo..lo + a], i)
+    let part = lend(t, a, k);
+    part[i]
 }
 
 // Word i of part k becomes v.

@@ -1,0 +1,4 @@
+-- Laws that the proofs of the functions cite.
+pub mod Redraws
+-- Theorems.
+pub mod Tight

@@ -1,0 +1,28 @@
+-- Document 01, 'Finding a key', by the arrays; 'Numbers a call can answer', Find: 1, 5.
+use mathlib.Core.Bool.{not, cond}
+use mathlib.Core.List.{List, [], _∷_}
+use Prim.Native.Nat.{ℕ}
+use lib.Dec.{eqb}
+use Rattle.rules.specs.Table.{_!_, tableOf, legal}
+use Rattle.rules.specs.Keys.{firstOf, pickOf, Looked, found, damaged, arrayRule}
+use Rattle.rules.specs.Answers.{Answer, fine, refused}
+use Rattle.rules.specs.declared.Refusal.the-variants.{Size, Damaged}
+use Rattle.find.specs.declared.Lookup.{Lookup}
+use Rattle.find.specs.declared.Lookup.the-variants.{On, Refused}
+
+-- the number and the values of a result
+abbrev pub answerOf : Lookup → Answer
+answerOf (On b server draws) = fine (b .0 ∷ server ∷ draws ∷ [])
+answerOf (Refused r) = refused r
+
+-- what the arrays lead to, with the server in the final seat; DAMAGED where that is 0
+abbrev pub served : List ℕ → Looked → Answer
+served S damaged = refused Damaged
+served S (found f) = cond (eqb (S ! f .seat) 0) (refused Damaged) (fine (f .seat ∷ S ! f .seat ∷ f .draws ∷ []))
+
+-- on the words w, for the key k
+unfoldable pub find : List ℕ → ℕ → Answer
+find w k =
+    let T = tableOf w in
+    let answer = served (T .S) (arrayRule (T .bare) (pickOf k) (firstOf k (T .bare .seats))) in
+    cond (not (legal w)) (refused Size) answer

@@ -1,0 +1,4 @@
+-- What find answers.
+pub mod Find
+-- What its steps answer.
+pub mod Steps

@@ -1,0 +1,19 @@
+-- `parts::lend` meets its contract: the part ends within the run, so it has a words.
+-- Assumes nothing.
+use borrow.Author.Needs.{needs}
+use native.Mathlib.Omega.{arith}
+use native.Mathlib.Nat.{min-eq-left}
+use mathlib.Core.Path.{ap, _∙_}
+use lib.ListN.{length, length-take, length-drop}
+use Rattle.rules.proofs.Words.{part-lent}
+use Rattle.parts.proofs.lend.Statement.{statement}
+use Rattle.parts.proofs.lend.Tie as tie
+
+returns : tie.Need-returns
+returns c =
+    let s = c .before in
+    let e = part-lent (s .args .t .now) (s .args .a) (s .args .k) in
+    (e, ap length e ∙ simp (length-take, length-drop) (min-eq-left (omega arith)))
+
+pub lend-spec : {M : Type 1} → statement M
+lend-spec = tie.close (tie.spec (λ c. search needs) (λ c. search needs) (λ c. search needs) (λ c. search needs) (λ c. search needs) (λ c. search needs) (λ c. search needs) returns)
