@@ -3,32 +3,21 @@
 use mathlib.Core.Path.{_≡_, refl, sym, ap, _∙_}
 use mathlib.Core.Bool.{Bool, true, false, not}
 use mathlib.Core.List.{List, [], _∷_}
-use Prim.Native.Nat.{ℕ, _<_}
+use Prim.Native.Nat.{ℕ}
 use native.Mathlib.Omega.{arith}
 use Rattle.rules.specs.Table.{legal}
 use Rattle.rules.specs.History.{Sound}
-use Rattle.rules.specs.Answers.{numberOf, Answer, fine, refused, Outcome, refusedAt, Occasion, _⇒_, firstOf}
+use Rattle.rules.specs.Answers.{Answer, fine, refused, Outcome, refusedAt, Occasion, _⇒_, firstThat}
 use Rattle.rules.specs.declared.Refusal.{Refusal}
-use Rattle.rules.specs.declared.Refusal.the-variants.{Size, Count, Id, Twice, Damaged, Full, Absent, Last, Room, Form}
+use Rattle.rules.specs.declared.Refusal.the-variants.{Size, Damaged}
+use Rattle.rules.proofs.Numbers.{numberOf-positive}
 use Rattle.sound.proofs.Sound.{sound?}
 use Rattle.audit.specs.Decides.{decided}
 use Rattle.audit.specs.Audit.{isSound, auditCall}
 
 -- no refusal is fine
-positive : (r : Refusal) → 0 < numberOf r
-positive Size = omega arith
-positive Count = omega arith
-positive Id = omega arith
-positive Twice = omega arith
-positive Damaged = omega arith
-positive Full = omega arith
-positive Absent = omega arith
-positive Last = omega arith
-positive Room = omega arith
-positive Form = omega arith
-
 not-fine : {P : Type 0} (r : Refusal) (vs : List ℕ) → refused r ≡ fine vs → P
-not-fine r vs e = absurd (omega (arith, positive r, ap (λ (x : Answer). x .number) e))
+not-fine r vs e = absurd (omega (arith, numberOf-positive r, ap (λ (x : Answer). x .number) e))
 
 true-yes : {P : Type 0} (d : Dec P) → decided d ≡ true → P
 true-yes (yes p) e = p
@@ -36,15 +25,15 @@ true-yes (no n) e = let z : _≡_ {A = ℕ} 0 1 = cc in absurd (omega arith)
 
 module _ (w : List ℕ) where
   abbrev first : Bool → Bool → Answer
-  first l s = firstOf (not l ⇒ Size ∷ not s ⇒ Damaged ∷ []) refused (fine [])
+  first l s = firstThat (not l ⇒ Size ∷ not s ⇒ Damaged ∷ []) refused (fine [])
 
   -- the audit refuses, and so does a call that asks 1 and 5 first
   pub refused-first : (keep : List ℕ) (os : List Occasion) (x : Outcome) (r : Refusal) → refused r ≡ auditCall w
-      → refusedAt keep r ≡ firstOf (not (legal w) ⇒ Size ∷ not (isSound w) ⇒ Damaged ∷ os) (refusedAt keep) x
+      → refusedAt keep r ≡ firstThat (not (legal w) ⇒ Size ∷ not (isSound w) ⇒ Damaged ∷ os) (refusedAt keep) x
   unfolding auditCall
   refused-first keep os x r e = go (legal w) (isSound w) e
     where
-      go : (l s : Bool) → refused r ≡ first l s → refusedAt keep r ≡ firstOf (not l ⇒ Size ∷ not s ⇒ Damaged ∷ os) (refusedAt keep) x
+      go : (l s : Bool) → refused r ≡ first l s → refusedAt keep r ≡ firstThat (not l ⇒ Size ∷ not s ⇒ Damaged ∷ os) (refusedAt keep) x
       go false s e = ap (λ (y : Answer). record { answer = y; after = keep }) e
       go true false e = ap (λ (y : Answer). record { answer = y; after = keep }) e
       go true true e = not-fine r [] e

@@ -4,7 +4,7 @@ use mathlib.Core.List.{List, [], _∷_}
 use Prim.Native.Nat.{ℕ}
 use Rattle.rules.specs.Table.{legal}
 use Rattle.rules.specs.History.{Sound}
-use Rattle.rules.specs.Answers.{Answer, fine, refused, _⇒_, firstOf}
+use Rattle.rules.specs.Answers.{Answer, fine, refused, _⇒_, firstThat}
 use Rattle.rules.specs.declared.Refusal.the-variants.{Size, Damaged}
 use Rattle.sound.proofs.Sound.{sound?}
 use Rattle.audit.specs.Decides.{decided}
@@ -22,4 +22,4 @@ answerOf (audited.Refused r) = refused r
 
 unfoldable pub auditCall : List ℕ → Answer
 unfolding isSound
-auditCall w = firstOf (not (legal w) ⇒ Size ∷ not (isSound w) ⇒ Damaged ∷ []) refused (fine [])
+auditCall w = firstThat (not (legal w) ⇒ Size ∷ not (isSound w) ⇒ Damaged ∷ []) refused (fine [])

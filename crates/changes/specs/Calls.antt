@@ -7,7 +7,7 @@ use lib.Dec.{leb, eqb}
 use Rattle.rules.specs.Table.{Table, words, runLength, mostSeats, tableOf, legal}
 use Rattle.rules.specs.Changes.{opened, lastOut, takeOut, seatId}
 use Rattle.rules.specs.Ids.{occurs, repeats, placeOf}
-use Rattle.rules.specs.Answers.{Answer, fine, refused, Outcome, refusedAt, done, _⇒_, firstOf}
+use Rattle.rules.specs.Answers.{Answer, fine, refused, Outcome, refusedAt, done, _⇒_, firstThat}
 use Rattle.rules.specs.declared.Refusal.the-variants.{Size, Count, Id, Twice, Damaged, Full, Absent, Last}
 use Rattle.audit.specs.Audit.{isSound}
 use Rattle.changes.specs.declared.Opened.{Opened}
@@ -30,7 +30,7 @@ outcome r w = record { answer = r; after = w }
 -- Opening takes a from its argument and ignores what the run w held
 unfoldable pub openCall : List ℕ → ℕ → List ℕ → Outcome
 openCall w a ids =
-    firstOf (
+    firstThat (
     not (leb 1 a && leb a mostSeats && eqb (length w) (runLength a)) ⇒ Size
     ∷ not (leb 1 (length ids) && leb (length ids) a) ⇒ Count
     ∷ occurs 0 ids ⇒ Id
@@ -42,7 +42,7 @@ openCall w a ids =
 unfoldable pub seatCall : List ℕ → ℕ → Outcome
 seatCall w id =
     let T = tableOf w in
-    firstOf (
+    firstThat (
     not (legal w) ⇒ Size
     ∷ not (isSound w) ⇒ Damaged
     ∷ eqb id 0 ⇒ Id
@@ -56,7 +56,7 @@ unfoldable pub outCall : List ℕ → ℕ → Outcome
 outCall w id =
     let T = tableOf w in
     let b = placeOf id (T .S) in
-    firstOf (
+    firstThat (
     not (legal w) ⇒ Size
     ∷ not (isSound w) ⇒ Damaged
     ∷ eqb id 0 ⇒ Id

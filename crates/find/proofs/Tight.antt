@@ -8,7 +8,7 @@ use Rattle.rules.specs.Answers.{Answer}
 use Rattle.rules.proofs.Numbers.{numberOf-injective, numberOf-positive}
 use Rattle.find.specs.declared.Lookup.{Lookup}
 use Rattle.find.specs.declared.Lookup.the-variants.{On, Refused}
-use Rattle.find.specs.Find.{answerOf, find}
+use Rattle.find.specs.Find.{answerOf, findCall}
 
 number-same : {x y : Answer} → x ≡ y → x .number ≡ y .number
 number-same e = ap (λ (a : Answer). a .number) e
@@ -25,5 +25,5 @@ answerOf-injective (Refused p) (On c y e) h = absurd (omega (arith, number-same 
 answerOf-injective (Refused p) (Refused q) h = ap Refused (numberOf-injective p q (number-same h))
 
 -- no two results meet the promise on the same run and key
-pub one-result : (w : List ℕ) (key : ℕ) (r s : Lookup) → answerOf r ≡ find w key → answerOf s ≡ find w key → r ≡ s
+pub one-result : (w : List ℕ) (key : ℕ) (r s : Lookup) → answerOf r ≡ findCall w key → answerOf s ≡ findCall w key → r ≡ s
 one-result w key r s hr hs = answerOf-injective r s (hr ∙ sym hs)

@@ -5,7 +5,7 @@ use Prim.Native.Nat.{ℕ}
 use lib.Dec.{eqb}
 use Rattle.rules.specs.Table.{_!_, tableOf, legal}
 use Rattle.rules.specs.Keys.{firstOf, pickOf, Looked, found, damaged, arrayRule}
-use Rattle.rules.specs.Answers.{Answer, fine, refused}
+use Rattle.rules.specs.Answers.{Answer, fine, refused, _⇒_, firstThat}
 use Rattle.rules.specs.declared.Refusal.the-variants.{Size, Damaged}
 use Rattle.find.specs.declared.Lookup.{Lookup}
 use Rattle.find.specs.declared.Lookup.the-variants.{On, Refused}
@@ -21,8 +21,8 @@ served S damaged = refused Damaged
 served S (found f) = cond (eqb (S ! f .seat) 0) (refused Damaged) (fine (f .seat ∷ S ! f .seat ∷ f .draws ∷ []))
 
 -- on the words w, for the key k
-unfoldable pub find : List ℕ → ℕ → Answer
-find w k =
+unfoldable pub findCall : List ℕ → ℕ → Answer
+findCall w k =
     let T = tableOf w in
-    let answer = served (T .S) (arrayRule (T .bare) (pickOf k) (firstOf k (T .bare .seats))) in
-    cond (not (legal w)) (refused Size) answer
+    firstThat (not (legal w) ⇒ Size ∷ []) refused
+    (served (T .S) (arrayRule (T .bare) (pickOf k) (firstOf k (T .bare .seats))))

@@ -101,8 +101,7 @@ pub fn servers(t: &[u32], a: usize) -> &[u32]
     requires { ⌜ Shape (now t) a ⌝ }
     ensures { λ r. ⌜ now r ≡ tableFor a (now (t .entry)) .S ⌝ }
 {
-    let lo = 2 + S * a;
-    &t[lo..lo + a]
+    lend(t, a, S)
 }
 
 // The reads.

@@ -48,8 +48,8 @@ pub data Occasion : Type 0 where
   _⇒_ : Bool → Refusal → Occasion
 
 -- the first that applies, in this order; else the call is done
-abbrev pub firstOf {ℓ} : {X : Type ℓ} → List Occasion → (Refusal → X) → X → X
-firstOf [] refuse x = x
-firstOf ((applies ⇒ r) ∷ os) refuse x =
-    let more = firstOf os refuse x in
+abbrev pub firstThat {ℓ} : {X : Type ℓ} → List Occasion → (Refusal → X) → X → X
+firstThat [] refuse x = x
+firstThat ((applies ⇒ r) ∷ os) refuse x =
+    let more = firstThat os refuse x in
     cond applies (refuse r) more

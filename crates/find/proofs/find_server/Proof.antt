@@ -10,7 +10,7 @@ use Rattle.rules.specs.Table.{tableFor}
 use Rattle.parts.proofs.Sized.{illegal, Told, told-seats}
 use Rattle.find.specs.declared.Drawn.{Drawn}
 use Rattle.find.specs.Steps.{lookedOf}
-use Rattle.find.specs.Find.{served, find}
+use Rattle.find.specs.Find.{served, findCall}
 use Rattle.find.proofs.find_server.Statement.{statement}
 use Rattle.find.proofs.find_server.Tie as tie
 
@@ -19,7 +19,7 @@ told : (c : tie.After-known-told) → Told (c .before .before .before .before .b
 told c = told-seats _ _ (sym (c .before .before .before .size-of .ensures) ∙ c .before .a .given .1)
 
 returns : tie.Need-returns
-unfolding find
+unfolding findCall
 returns c = rw (illegal _ (sym (c .before .before .size-of .ensures) ∙ c .enum-told .given .1)) refl
 
 look-up-requires : tie.Need-look-up-requires
@@ -32,8 +32,8 @@ look-up-requires c κs =
 -- what the draws lead to
 led : (f : tie.After-look-up) (r : Drawn) → f .look-up .result ≡ r →
     let s = f .before .before .before .before .before .before .before .before .before .before in
-    find (s .args .t .now) (s .args .key) ≡ served (tableFor (f .before .before .before .before .before .before .a .given .0 .0) (s .args .t .now) .S) (lookedOf r)
-unfolding find
+    findCall (s .args .t .now) (s .args .key) ≡ served (tableFor (f .before .before .before .before .before .before .a .given .0 .0) (s .args .t .now) .S) (lookedOf r)
+unfolding findCall
 led f r e =
     let p = f .before .before .before .before in
     let s = f .before .before .before .before .before .before .before .before .before .before in
