@@ -1,4 +1,6 @@
-pub mod Examples
+-- Theorems.
+pub mod WorkedExamples
+pub mod Undo
 -- Laws of runs and parts.
 pub mod Parts
 pub mod Words
