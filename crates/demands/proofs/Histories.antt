@@ -1,0 +1,78 @@
+-- Along an accepted history the table is the stack of removals not answered so far, over what the seatings left over made of the opening;
+-- so it ends as what is left of the history makes it. A seat in use was given its id by its latest seating, or by the opening.
+-- Assumes nothing.
+use mathlib.Core.Path.{_≡_, refl, sym, ap, _∙_}
+use mathlib.Core.Bool.{cond}
+use mathlib.Core.List.{List, [], _∷_, _++_, reverse, reverse-cons, append-nil, append-assoc, Sublistᴰ, Sublistᴰ·cons, Sublistᴰ·refl, Sublistᴰ·trans, Sublistᴰ·cons-cons}
+use mathlib.Core.Logic.{_≢_}
+use Prim.Native.Nat.{ℕ, zero, suc, _-_}
+use native.Mathlib.Omega.{arith}
+use native.Mathlib.Decide.{ℕ-discrete}
+use lib.ListN.{length, replicate}
+use lib.Seq.{getD-set-same, getD-set-other, append-snoc}
+use lib.Dec.{eqb}
+use borrow.Author.Tests.{eq-eqb, ne-eqb}
+use Rattle.rules.specs.Table.{_!_, Bare, Table}
+use Rattle.rules.specs.Changes.{opened, seat}
+use Rattle.rules.specs.History.{Change, taking, seating, run, Accepted, done, then}
+use Rattle.sound.proofs.Lists.{zeros-at}
+use Rattle.sound.proofs.Reached.{Passes, changed-passes, opened-passes}
+use Rattle.demands.specs.Histories.{struck, reseat, lastGiven, Histories}
+use Rattle.demands.proofs.Stack.{Stack, empty, push, pop, emptied, reseat-append, stack-makes}
+
+-- every word but the ids
+same-end : {B : Bare} {T : Table} {h : List Change} (O : Bare) → Accepted T h → Passes T → (over unanswered : List Change) → reseat O over ≡ B → Stack B unanswered (T .bare)
+    → run T h .bare ≡ reseat O (struck over unanswered h)
+same-end O done p over unanswered e k =
+    sym (stack-makes k) ∙ ap (λ (X : Bare). reseat X (reverse unanswered)) (sym e) ∙ sym (reseat-append O over (reverse unanswered))
+same-end O (then {c = taking id b} s ok) p over unanswered e k = same-end O ok (changed-passes (taking id b) p s) over (taking id b ∷ unanswered) e (push k p s)
+same-end O (then {c = seating id b} s ok) p over (r ∷ unanswered) e k = same-end O ok (changed-passes (seating id b) p s) over unanswered e (pop k)
+same-end O (then {c = seating id b} s ok) p over [] e k =
+    same-end O ok (changed-passes (seating id b) p s) (over ++ (seating id b ∷ [])) [] (reseat-append O over (seating id b ∷ []) ∙ ap seat (e ∙ emptied k)) empty
+
+-- the ids: where x is in use, it holds g now
+holds : {T : Table} {h : List Change} → Accepted T h → Passes T → (x g : ℕ) → (T .bare .A ! x ≡ 0 → T .S ! x ≡ g)
+    → run T h .bare .A ! x ≡ 0 → run T h .S ! x ≡ lastGiven x g h
+holds done p x g f = f
+holds {T} (then {c = taking id b} s ok) p x g f = holds ok (changed-passes (taking id b) p s) x g (elim (ℕ-discrete x b) [
+  | yes e ↦ rw (e, getD-set-same (T .bare .A) b (T .bare .used - 1) 0 (omega (arith, s .below, p .test .shape .lenA))) (λ z. absurd (omega (arith, s .two)))
+  | no ne ↦ rw (getD-set-other (T .bare .A) b x (T .bare .used - 1) 0 ne, getD-set-other (T .S) b x 0 0 ne) f
+])
+holds {T} (then {c = seating id b} s ok) p x g f = holds ok (changed-passes (seating id b) p s) x (cond (eqb b x) id g) (rw (s .isLast) (elim (ℕ-discrete b x) [
+  | yes e ↦
+      let below = p .test .order .taken (T .bare .seats - T .bare .used - 1) (omega (arith, s .room)) .0 in
+      rw (← e, eq-eqb b b refl, getD-set-same (T .S) b id 0 (omega (arith, s .isLast, below, p .ids .size))) (λ z. refl)
+  | no ne ↦
+      let off : x ≢ b = λ e. ne (sym e) in
+      rw (ne-eqb b x ne, getD-set-other (T .bare .A) b x 0 0 off, getD-set-other (T .S) b x id 0 off) f
+]))
+
+-- opening gave seat x id x of the list
+first-given : (ids : List ℕ) (m x : ℕ) → (ids ++ replicate m 0) ! x ≡ ids ! x
+first-given [] m x = zeros-at m x
+first-given (id ∷ ids) m zero = refl
+first-given (id ∷ ids) m (suc x) = first-given ids m x
+
+-- what is left out
+snoc : (over unanswered : List Change) (c : Change) (h : List Change) → (over ++ reverse (c ∷ unanswered)) ++ h ≡ (over ++ reverse unanswered) ++ (c ∷ h)
+snoc over unanswered c h = rw (reverse-cons c unanswered, ← append-assoc, append-snoc) refl
+
+two-less : (k h : List Change) (c d : Change) → Sublistᴰ (k ++ h) (k ++ c ∷ d ∷ h)
+two-less [] h c d = Sublistᴰ·cons (Sublistᴰ·cons (Sublistᴰ·refl h))
+two-less (x ∷ k) h c d = Sublistᴰ·cons-cons refl (two-less k h c d)
+
+left-out : (over unanswered h : List Change) → Sublistᴰ (struck over unanswered h) ((over ++ reverse unanswered) ++ h)
+left-out over unanswered [] = rw append-nil (Sublistᴰ·refl _)
+left-out over unanswered (taking id b ∷ h) = rw snoc at (left-out over (taking id b ∷ unanswered) h)
+left-out over (r ∷ unanswered) (seating id b ∷ h) = rw snoc (Sublistᴰ·trans (left-out over unanswered h) (two-less (over ++ reverse unanswered) h r (seating id b)))
+left-out over [] (seating id b ∷ h) = rw append-nil (rw (append-nil, append-snoc) at (left-out (over ++ (seating id b ∷ [])) [] h))
+
+pub theorem : Histories
+unfolding opened
+theorem a ids h o ok =
+    let p = opened-passes a ids o in
+    record {
+      bare = same-end (opened a ids .bare) ok p [] [] refl empty;
+      held = λ x l. holds ok p x (ids ! x) (λ z. first-given ids (a - length ids) x);
+      fewer = left-out [] [] h;
+    }

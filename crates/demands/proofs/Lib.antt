@@ -1,0 +1,7 @@
+-- Laws.
+pub mod Stack
+-- Theorems.
+pub mod Undo
+pub mod Histories
+pub mod Keys
+pub mod Again

@@ -1,0 +1,5 @@
+-- Demand 3, sentence by sentence.
+pub mod Undo
+pub mod Histories
+pub mod Keys
+pub mod Again

@@ -1,0 +1,1 @@
+// Demand 3: seating undoes taking out, along any history, and which keys a change moves. Of the calls as they are promised. No code.
