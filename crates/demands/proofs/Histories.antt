@@ -18,17 +18,17 @@ use Rattle.rules.specs.History.{Change, taking, seating, run, Accepted, done, t
 use Rattle.sound.proofs.Lists.{zeros-at}
 use Rattle.sound.proofs.Reached.{Passes, changed-passes, opened-passes}
 use Rattle.demands.specs.Histories.{struck, reseat, lastGiven, Histories}
-use Rattle.demands.proofs.Stack.{Stack, empty, push, pop, emptied, reseat-append, stack-makes}
+use Rattle.demands.proofs.Stack.{Stack, empty, push, pop, emptied, Makes, nothing, next, makes-append, stack-makes, makes-same, makes-allowed}
 
 -- every word but the ids
-same-end : {B : Bare} {T : Table} {h : List Change} (O : Bare) → Accepted T h → Passes T → (over unanswered : List Change) → reseat O over ≡ B → Stack B unanswered (T .bare)
-    → run T h .bare ≡ reseat O (struck over unanswered h)
-same-end O done p over unanswered e k =
-    sym (stack-makes k) ∙ ap (λ (X : Bare). reseat X (reverse unanswered)) (sym e) ∙ sym (reseat-append O over (reverse unanswered))
-same-end O (then {c = taking id b} s ok) p over unanswered e k = same-end O ok (changed-passes (taking id b) p s) over (taking id b ∷ unanswered) e (push k p s)
-same-end O (then {c = seating id b} s ok) p over (r ∷ unanswered) e k = same-end O ok (changed-passes (seating id b) p s) over unanswered e (pop k)
-same-end O (then {c = seating id b} s ok) p over [] e k =
-    same-end O ok (changed-passes (seating id b) p s) (over ++ (seating id b ∷ [])) [] (reseat-append O over (seating id b ∷ []) ∙ ap seat (e ∙ emptied k)) empty
+ends : {O B : Bare} {T : Table} {h over unanswered : List Change} → Accepted T h → Passes T → Makes O over B → Stack B unanswered (T .bare)
+    → Makes O (struck over unanswered h) (run T h .bare)
+ends done p m k = makes-append m (stack-makes k)
+ends (then {c = taking id b} s ok) p m k = ends ok (changed-passes (taking id b) p s) m (push k p s)
+ends {unanswered = r ∷ unanswered} (then {c = seating id b} s ok) p m k = ends ok (changed-passes (seating id b) p s) m (pop k)
+ends {O} {T = T} {unanswered = []} (then {c = seating id b} s ok) p m k =
+    let m′ = rw (emptied k) at m in
+    ends ok (changed-passes (seating id b) p s) (makes-append m′ (next (s .room, s .isLast) nothing)) empty
 
 -- the ids: where x is in use, it holds g now
 holds : {T : Table} {h : List Change} → Accepted T h → Passes T → (x g : ℕ) → (T .bare .A ! x ≡ 0 → T .S ! x ≡ g)
@@ -71,8 +71,10 @@ pub theorem : Histories
 unfolding opened
 theorem a ids h o ok =
     let p = opened-passes a ids o in
+    let m = ends ok p nothing empty in
     record {
-      bare = same-end (opened a ids .bare) ok p [] [] refl empty;
+      bare = makes-same m;
       held = λ x l. holds ok p x (ids ! x) (λ z. first-given ids (a - length ids) x);
       fewer = left-out [] [] h;
+      allowed = makes-allowed m;
     }

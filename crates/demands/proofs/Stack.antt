@@ -12,7 +12,7 @@ use Rattle.sound.specs.Kept.{Kept, Leaves}
 use Rattle.sound.proofs.Made.{undone}
 use Rattle.sound.proofs.Steps.{kept}
 use Rattle.sound.proofs.Reached.{Passes, leaves}
-use Rattle.demands.specs.Histories.{reseat}
+use Rattle.demands.specs.Histories.{reseat, Allows, Allowed, none, more}
 
 -- from B the removals, the latest first, make T
 pub data Stack (B : Bare) : List Change → Bare → Type 0 where
@@ -28,14 +28,24 @@ pop {B} (top {removals = removals} k g v e) = subst (λ (X : Bare). Stack B remo
 pub emptied : {B T : Bare} → Stack B [] T → B ≡ T
 emptied empty = refl
 
-pub reseat-append : (T : Bare) (h k : List Change) → reseat T (h ++ k) ≡ reseat (reseat T h) k
-reseat-append T [] k = refl
-reseat-append T (c ∷ h) k = reseat-append (moved T (move c)) h k
+-- from O the changes h, each allowed, make T
+pub data Makes : Bare → List Change → Bare → Type 0 where
+  nothing : {T : Bare} → Makes T [] T
+  next : {T U : Bare} {c : Change} {h : List Change} → Allows T c → Makes (moved T (move c)) h U → Makes T (c ∷ h) U
 
-pub stack-makes : {B T : Bare} {removals : List Change} → Stack B removals T → reseat B (reverse removals) ≡ T
-stack-makes empty = refl
+pub makes-append : {O T U : Bare} {h k : List Change} → Makes O h T → Makes T k U → Makes O (h ++ k) U
+makes-append nothing m = m
+makes-append (next ok l) m = next ok (makes-append l m)
+
+pub stack-makes : {B T : Bare} {removals : List Change} → Stack B removals T → Makes B (reverse removals) T
+stack-makes empty = nothing
 stack-makes {B} (top {id = id} {b = b} {removals = removals} k g v e) =
-    ap (reseat B) (reverse-cons (taking id b) removals)
-    ∙ reseat-append B (reverse removals) (taking id b ∷ [])
-    ∙ ap (λ (X : Bare). out X b) (stack-makes k)
-    ∙ e
+    rw (reverse-cons (taking id b) removals, ← e) (makes-append (stack-makes k) (next (v .below, v .inUse, v .two) nothing))
+
+pub makes-same : {O T : Bare} {h : List Change} → Makes O h T → T ≡ reseat O h
+makes-same nothing = refl
+makes-same (next ok m) = makes-same m
+
+pub makes-allowed : {O T : Bare} {h : List Change} → Makes O h T → Allowed O h
+makes-allowed nothing = none
+makes-allowed (next ok m) = more ok (makes-allowed m)
