@@ -1,5 +1,6 @@
 pub mod Examples
--- Laws of runs and parts.
+-- Laws of lists, runs and parts.
+pub mod Lists
 pub mod Parts
 pub mod Words
 -- Laws of keys.

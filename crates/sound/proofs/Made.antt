@@ -13,7 +13,7 @@ use Rattle.rules.specs.Table.{_!_, Bare}
 use Rattle.rules.specs.Changes.{out, seat}
 use Rattle.sound.specs.Kept.{Kept, Shape, Leaves}
 use Rattle.sound.specs.Form.{after, made, Takeable}
-use Rattle.sound.proofs.Lists.{padded, keeps, set-back}
+use Rattle.rules.proofs.Lists.{padded, keeps, set-back}
 use Rattle.sound.proofs.Written.{written}
 use Rattle.sound.proofs.KeptOut.{kept-full, kept-out}
 

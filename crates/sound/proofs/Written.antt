@@ -9,7 +9,7 @@ use lib.Seq.{getD-set-same, getD-set-other}
 use Rattle.rules.specs.Table.{Bare, _!_}
 use Rattle.rules.specs.Changes.{out}
 use Rattle.sound.specs.Kept.{Kept, Leaves}
-use Rattle.sound.proofs.Lists.{keeps}
+use Rattle.rules.proofs.Lists.{keeps}
 
 -- what taking b out writes, and what it leaves
 pub record Written (T : Bare) (b : ℕ) : Type 0 where
