@@ -8,7 +8,7 @@ use super::table::{distinct, Table};
 
 /// Answers N.
 pub fn open(run: &mut [u32], a: u32, ids: &[u32]) -> Result<u32, u32> {
-    if a < 1 || a > MOST_SEATS || run.len() != run_length(a) {
+    if !(1..=MOST_SEATS).contains(&a) || run.len() != run_length(a) {
         return Err(SIZE);
     }
     if ids.is_empty() || ids.len() > a as usize {

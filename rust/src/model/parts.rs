@@ -85,7 +85,7 @@ impl Parts {
     pub fn of_words(words: &[u32]) -> Option<Parts> {
         let a = *words.first()?;
         let N = *words.get(1)?;
-        if a < 1 || a > MOST_SEATS || words.len() != run_length(a) {
+        if !(1..=MOST_SEATS).contains(&a) || words.len() != run_length(a) {
             return None;
         }
         let mut parts = words[2..].chunks(a as usize).map(<[u32]>::to_vec);

@@ -38,7 +38,7 @@ impl Rest<'_> {
     }
 
     fn mark(&mut self, mark: [u8; 2]) -> Option<()> {
-        (self.bytes(2)? == mark).then(|| ())
+        (self.bytes(2)? == mark).then_some(())
     }
 }
 

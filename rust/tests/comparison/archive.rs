@@ -143,5 +143,4 @@ fn the_archive_edges() {
 #[test]
 fn the_calls_in_rusts_habits() {
     passes("edges, in Rust's habits", edges::compare, &Wrapped);
-    passes("changes, in Rust's habits", changes::compare, &Wrapped);
 }

@@ -1,12 +1,14 @@
 //! The edges that document 01 names, and the orders of the refusals.
 use crate::compare::{Comparison, Same};
 use crate::library::Library;
+use steamacorn::model::parts::Parts;
 use steamacorn::{record_bytes, words};
 
 pub fn compare(library: &dyn Library) -> Same<u64> {
     let mut comparison = Comparison::new(library);
     for a in [0, 1, 2, 3, 2047, 2048, 2049, 65_536] {
         openings(&mut comparison, a)?;
+        shapes(&mut comparison, a)?;
     }
     for a in [u32::MAX, 1 << 31, 715_827_883] {
         comparison.open(&mut [77; 20], a, &[1])?; // 6 * 715,827,883 is 2 more than 2^32
@@ -33,6 +35,16 @@ fn openings(comparison: &mut Comparison, a: usize) -> Same<()> {
         for ids in lists {
             comparison.open(&mut vec![77; length], a as u32, ids)?;
         }
+    }
+    Ok(())
+}
+
+/// What opening would leave, also where a is none that it takes, lent one word short, one long, and as it is.
+fn shapes(comparison: &mut Comparison, a: usize) -> Same<()> {
+    let ids: Vec<u32> = (101..).take(a).collect();
+    let whole = [Parts::opened(a as u32, &ids).words(), vec![0]].concat();
+    for length in [words(a), words(a) - 1, words(a) + 1] {
+        comparison.every_call(&whole[..length], &[0, 101, 7], &[0, u64::MAX])?;
     }
     Ok(())
 }

@@ -3,6 +3,7 @@ use crate::compare::{Comparison, Same};
 use crate::library::Library;
 use crate::random::Random;
 use steamacorn::model::record;
+use steamacorn::model::table::Table;
 use steamacorn::words;
 
 pub fn compare(library: &dyn Library) -> Same<u64> {
@@ -27,6 +28,10 @@ pub fn compare(library: &dyn Library) -> Same<u64> {
         for _ in 0..50 {
             mutated(&mut comparison, &mut random, bytes.clone())?;
         }
+    }
+    let ids: Vec<u32> = (1..=2049).collect();
+    for (a, used) in [(0, 0), (1, 0), (5, 0), (2048, 0), (2048, 1), (2048, 2048), (2049, 1), (2049, 2049)] {
+        loaded(&mut comparison, &record::of_table(&Table::opened(a, &ids[..used])))?;
     }
     Ok(comparison.calls)
 }

@@ -4,7 +4,7 @@ use crate::library::{found, Answer, Library, Model, UNWRITTEN};
 use crate::{changes, damage, edges, lookups, records};
 use steamacorn::model::calls;
 use steamacorn::model::find::{first_of, pick_of, Found};
-use steamacorn::model::numbers::{DAMAGED, ROOM};
+use steamacorn::model::numbers::{DAMAGED, FORM, ROOM};
 use steamacorn::model::parts::Parts;
 
 fn passes(name: &str, compare: fn(&dyn Library) -> Same<u64>) {
@@ -165,13 +165,11 @@ fn bytes_written_beside_a_refusal_are_caught() {
     caught(edges::compare, Faulty { save, ..FAULTLESS }, "save: place");
 }
 
-/// Loading that does not ask whether an id occurs twice.
+/// Loading that does not ask whether an id occurs twice: it takes two seats that are in use by one id.
 #[test]
 fn a_record_taken_too_easily_is_caught() {
     let load = |table: &mut [u32], record: &mut [u8]| match calls::load(table, record) {
-        Err(10) if record.len() == 22 && record[14..].starts_with(b"IN") && record[10..14] == record[18..] => {
-            Answer::fine(&[2])
-        }
+        Err(FORM) if record.len() == 22 && record[10..14] == record[18..] => Answer::fine(&[2]),
         result => Answer::of(result),
     };
     caught(records::compare, Faulty { load, ..FAULTLESS }, "load: Answer");
