@@ -59,18 +59,23 @@ fn the_changes_leave_what_the_history_says() {
 fn seating_undoes_taking_out() {
     for (mut random, table) in tables(1, 400).filter(|(_, table)| table.used() >= 2) {
         let before = table.words();
-        for id in table.servers.iter().filter(|id| **id != 0) {
+        for id in seated(&table) {
             let mut run = before.clone();
-            let b = calls::out(&mut run, *id).expect("two servers");
-            let new = random.one_of(&[*id, random_absent(&table)]);
+            let b = calls::out(&mut run, id).expect("two servers");
+            let new = random.one_of(&[id, absent(&table)]);
             assert_eq!(calls::seat(&mut run, new), Ok(b));
-            run[2 + 5 * table.servers.len() + b as usize] = *id;
+            run[2 + 5 * table.servers.len() + b as usize] = id;
             assert_eq!(run, before);
         }
     }
 }
 
-fn random_absent(table: &Table) -> u32 {
+fn seated(table: &Table) -> Vec<u32> {
+    table.servers.iter().copied().filter(|id| *id != 0).collect()
+}
+
+/// An id that has no seat.
+fn absent(table: &Table) -> u32 {
     (1..).find(|id| table.seat_of(*id).is_none()).expect("fewer servers than ids")
 }
 
@@ -98,15 +103,11 @@ fn only_the_keys_of_a_changed_seat_move() {
         let seats = |run: &[u32]| find_all(run, &keys).into_iter().map(|found| found.seat).collect::<Vec<_>>();
         let before = seats(&run);
         let mut less = run.clone();
-        let b = calls::out(&mut less, random.one_of(&table.servers).max(1)).or_else(|_| {
-            let seated = table.servers.iter().copied().max().expect("a server");
-            calls::out(&mut less, seated)
-        });
-        let b = b.expect("two servers");
+        let b = calls::out(&mut less, random.one_of(&seated(&table))).expect("two servers");
         let after = seats(&less);
         assert!(before.iter().zip(&after).all(|(old, new)| if *old == b { *new != b } else { old == new }));
         let mut more = run.clone();
-        if let Ok(b) = calls::seat(&mut more, random_absent(&table)) {
+        if let Ok(b) = calls::seat(&mut more, absent(&table)) {
             assert!(before.iter().zip(seats(&more)).all(|(old, new)| *old == new || new == b));
         }
     }
