@@ -2,7 +2,7 @@
 use crate::compare::Same;
 use crate::library::{Answer, Library, UNWRITTEN};
 use crate::{changes, damage, edges, lookups, records};
-use std::sync::mpsc;
+use std::sync::mpsc::{self, RecvTimeoutError};
 use std::thread;
 use std::time::Duration;
 use steamacorn::ffi::*;
@@ -111,7 +111,8 @@ fn passes(name: &'static str, compare: fn(&dyn Library) -> Same<u64>, library: &
     match receiver.recv_timeout(LIMIT) {
         Ok(Ok(calls)) => println!("{}: {} calls compared", name, calls),
         Ok(Err(difference)) => panic!("{}: {}", name, difference),
-        Err(_) => panic!("{}: no end within {:?}, or the thread panicked", name, LIMIT),
+        Err(RecvTimeoutError::Timeout) => panic!("{}: no end within {:?}", name, LIMIT),
+        Err(RecvTimeoutError::Disconnected) => panic!("{}: the model is at fault, as told above", name),
     }
 }
 

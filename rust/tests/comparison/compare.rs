@@ -24,13 +24,12 @@ impl<T: Copy + PartialEq + Debug + From<u8>> Lent<T> {
     /// The guards are whole, and the run is this one.
     fn holds(&self, run: &[T]) -> Result<(), String> {
         let expected = Lent::new(run).0;
-        match (0..expected.len()).find(|i| self.0[*i] != expected[*i]) {
-            None => Ok(()),
-            Some(i) => {
-                let place = i as isize - GUARD as isize;
-                Err(format!("place {} of {}: {:?}, not {:?}", place, run.len(), self.0[i], expected[i]))
-            }
+        if self.0 == expected {
+            return Ok(());
         }
+        let i = (0..expected.len()).find(|i| self.0[*i] != expected[*i]).expect("a difference");
+        let place = i as isize - GUARD as isize;
+        Err(format!("place {} of {}: {:?}, not {:?}", place, run.len(), self.0[i], expected[i]))
     }
 }
 

@@ -25,7 +25,7 @@ pub fn compare(library: &dyn Library) -> Same<u64> {
         let table = random.table(a);
         lengths(&mut comparison, &table)?;
         circles(&mut comparison, &mut random, &table)?;
-        for _ in 0..12 {
+        for _ in 0..4 {
             several_words(&mut comparison, &mut random, &table)?;
         }
     }

@@ -39,9 +39,10 @@ pub fn compare(library: &dyn Library) -> Same<u64> {
 /// Loads into the run that the bytes call for, and saves what was loaded; then into runs of other lengths.
 fn loaded(comparison: &mut Comparison, bytes: &[u8]) -> Same<()> {
     let a = match bytes {
-        [_, _, high, low, ..] => (usize::from(*high) * 256 + usize::from(*low)).min(2049),
-        _ => 3,
+        [_, _, high, low, ..] => usize::from(*high) * 256 + usize::from(*low),
+        _ => 0,
     };
+    let a = a.min(bytes.len() / 4); // a seat has at least four bytes
     let mut table = vec![77; words(a)];
     if comparison.load(&mut table, bytes)?.number == 0 {
         let mut again = vec![0xEE; bytes.len() + 3];
