@@ -1,5 +1,5 @@
-//! What is compared: the seven calls. Every run is lent so that it could be written to, also one that a call has only to
-//! read, so that such a write shows.
+//! What is compared: the seven calls. Every run is lent so that it could be written to, also one that a call has only
+//! to read, so that such a write shows.
 use steamacorn::model::calls;
 use steamacorn::model::find::{by_arrays, first_of, pick_of, Found};
 use steamacorn::model::numbers::SIZE;
@@ -41,7 +41,7 @@ pub trait Library {
     fn load(&self, table: &mut [u32], record: &mut [u8]) -> Answer;
 }
 
-/// The model. It finds by the arrays, on sound tables too, where a comparison goes by sets: that both agree is seen there.
+/// The model. It finds by the arrays, on sound tables too, where a comparison goes by sets: there both have to agree.
 pub struct Model;
 
 impl Library for Model {
