@@ -10,6 +10,9 @@ use audit::Audited;
 use audit::audit_table;
 use ids::occurs_in;
 use ids::place_in;
+use ids::repeats_in;
+use layout::lay_out;
+use parts::MOST_SEATS;
 use parts::clear_r;
 use parts::get_l;
 use parts::get_r;
@@ -133,4 +136,34 @@ pub fn take_out(t: &mut [u32], id: u32) -> Changed
         return out_sound(t, id);
     };
     Changed::Refused(why)
+}
+
+// Opening with a seats and a list of ids. What the run held is not looked at.
+pub fn open_table(t: &mut [u32], a: u32, ids: &[u32]) -> Opened
+    ensures { λ r. ⌜ outcome (openedAnswer r) (now (t .exit)) ≡ openCall (now (t .entry)) a (now (ids .entry)) ⌝ }
+{
+    let seats = a as usize;
+    if seats < 1 {
+        return Opened::Refused(Refusal::Size);
+    }
+    if MOST_SEATS < seats {
+        return Opened::Refused(Refusal::Size);
+    }
+    if t.len() != 2 + 6 * seats {
+        return Opened::Refused(Refusal::Size);
+    }
+    if ids.len() < 1 {
+        return Opened::Refused(Refusal::Count);
+    }
+    if seats < ids.len() {
+        return Opened::Refused(Refusal::Count);
+    }
+    if occurs_in(ids, 0) {
+        return Opened::Refused(Refusal::Id);
+    }
+    if repeats_in(ids) {
+        return Opened::Refused(Refusal::Twice);
+    }
+    lay_out(t, seats, ids);
+    Opened::Seats(ids.len() as u32)
 }

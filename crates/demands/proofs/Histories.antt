@@ -1,7 +1,7 @@
 -- Along an accepted history the table is the stack of removals not answered so far, over what the seatings left over made of the opening;
 -- so it ends as what is left of the history makes it. A seat in use was given its id by its latest seating, or by the opening.
 -- Assumes nothing.
-use mathlib.Core.Path.{_≡_, refl, sym, ap, _∙_}
+use mathlib.Core.Path.{_≡_, refl, sym, ap, _∙_, subst}
 use mathlib.Core.Bool.{cond}
 use mathlib.Core.List.{List, [], _∷_, _++_, reverse, reverse-cons, append-nil, append-assoc, Sublistᴰ, Sublistᴰ·cons, Sublistᴰ·refl, Sublistᴰ·trans, Sublistᴰ·cons-cons}
 use mathlib.Core.Logic.{_≢_}
@@ -12,12 +12,13 @@ use lib.ListN.{length, replicate}
 use lib.Seq.{getD-set-same, getD-set-other, append-snoc}
 use lib.Dec.{eqb}
 use borrow.Author.Tests.{eq-eqb, ne-eqb}
-use Rattle.rules.specs.Table.{_!_, Bare, Table}
-use Rattle.rules.specs.Changes.{opened, seat}
-use Rattle.rules.specs.History.{Change, taking, seating, run, Accepted, done, then}
-use Rattle.sound.proofs.Lists.{zeros-at}
+use Rattle.rules.specs.Table.{_!_, Bare, Table, tableOf}
+use Rattle.rules.specs.Changes.{opened}
+use Rattle.rules.specs.History.{Change, taking, seating, run, Accepted, done, then, Sound}
+use Rattle.rules.proofs.Lists.{zeros-at}
 use Rattle.sound.proofs.Reached.{Passes, changed-passes, opened-passes}
-use Rattle.demands.specs.Histories.{struck, reseat, lastGiven, Histories}
+use Rattle.changes.proofs.Accepted.{Changes, out-changes, seat-changes, open-opens}
+use Rattle.demands.specs.Histories.{struck, lastGiven, Struck, Histories, Calls, end, out, seat, HistoriesOfCalls}
 use Rattle.demands.proofs.Stack.{Stack, empty, push, pop, emptied, Makes, nothing, next, makes-append, stack-makes, makes-same, makes-allowed}
 
 -- every word but the ids
@@ -78,3 +79,19 @@ theorem a ids h o ok =
       fewer = left-out [] [] h;
       allowed = makes-allowed m;
     }
+
+-- an accepted call, and what follows it
+call-accepted : {c : Change} {w u : List ℕ} {h : List Change} {last : Table} → Changes c w u → Accepted (tableOf u) h × (last ≡ run (tableOf u) h)
+    → Accepted (tableOf w) (c ∷ h) × (last ≡ run (tableOf w) (c ∷ h))
+call-accepted {h = h} c r = (then (c .accepts) (subst (λ (U : Table). Accepted U h) (c .table) (r .0)), r .1 ∙ ap (λ (U : Table). run U h) (c .table))
+
+calls-accepted : {w v : List ℕ} {h : List Change} → Sound w → Calls w h v → Accepted (tableOf w) h × (tableOf v ≡ run (tableOf w) h)
+calls-accepted s end = (done, refl)
+calls-accepted s (out {id = id} {b = b} {w = w} {u = u} e rest) = let c = out-changes w u id b s e in call-accepted c (calls-accepted (c .sound) rest)
+calls-accepted s (seat {id = id} {b = b} {w = w} {u = u} word e rest) = let c = seat-changes w u id b s word e in call-accepted c (calls-accepted (c .sound) rest)
+
+pub of-calls : HistoriesOfCalls
+of-calls a ids w u v h word e calls =
+    let o = open-opens w u a ids (length ids ∷ []) word e in
+    let r = subst (λ (U : Table). Accepted U h × (tableOf v ≡ run U h)) (o .table) (calls-accepted (o .sound) calls) in
+    subst (λ (U : Table). Struck a ids h U) (sym (r .1)) (theorem a ids h (o .opens) (r .0))

@@ -60,7 +60,7 @@ Histories = (a : ℕ) (ids : List ℕ) (h : List Change) → Opens a ids → Acc
 
 -- The same of the calls. From the words w to the words v, each call accepted, with the seat of its change for an answer:
 pub data Calls : List ℕ → List Change → List ℕ → Type 0 where
-  none : {w : List ℕ} → Calls w [] w
+  end : {w : List ℕ} → Calls w [] w
   out : {id b : ℕ} {w u v : List ℕ} {h : List Change} → outCall w id ≡ done (b ∷ []) u → Calls u h v → Calls w (taking id b ∷ h) v
   seat : {id b : ℕ} {w u v : List ℕ} {h : List Change} → id < 2 ^ 32 → seatCall w id ≡ done (b ∷ []) u → Calls u h v → Calls w (seating id b ∷ h) v
 

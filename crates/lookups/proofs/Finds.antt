@@ -11,7 +11,7 @@ use borrow.Author.Tests.{ne-eqb}
 use Rattle.rules.specs.Table.{_!_, Bare}
 use Rattle.rules.specs.Keys.{Move, full, movesOf, since, Found, on, draw, Looked, found, lookup}
 use Rattle.sound.specs.Kept.{Kept}
-use Rattle.sound.proofs.Lists.{zeros-at}
+use Rattle.rules.proofs.Lists.{zeros-at}
 use Rattle.sound.proofs.Passes.{test-full}
 use Rattle.sound.proofs.Reached.{reached-kept}
 use Rattle.lookups.specs.EveryKey.{Draws, EveryKey}

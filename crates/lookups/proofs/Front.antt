@@ -13,7 +13,7 @@ use Rattle.rules.specs.Keys.{at, full}
 use Rattle.sound.specs.Kept.{Kept, Leaves}
 use Rattle.sound.specs.Form.{after, Takeable}
 use Rattle.sound.specs.Test.{Test}
-use Rattle.sound.proofs.Lists.{count-at}
+use Rattle.rules.proofs.Lists.{count-at}
 use Rattle.sound.proofs.Written.{Written, written}
 use Rattle.sound.proofs.KeptOut.{kept-full, kept-out}
 use Rattle.sound.proofs.Made.{fewer-still, after-is, next-leaves}

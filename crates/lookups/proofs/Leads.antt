@@ -12,7 +12,7 @@ use Rattle.rules.specs.History.{Change, taking, seating, Opens, run, Accepted, 
 use Rattle.rules.specs.Keys.{Move, leave, return, move, full, movesOf}
 use Rattle.sound.specs.Kept.{Leaves}
 use Rattle.sound.specs.Form.{after, Takeable}
-use Rattle.sound.proofs.Lists.{length-down, down-at}
+use Rattle.rules.proofs.Lists.{length-down, down-at}
 use Rattle.sound.proofs.Made.{fewer-still, after-is, next-leaves}
 use Rattle.sound.proofs.Audit.{R-takeable, as-made}
 use Rattle.sound.proofs.Reached.{Passes, leaves, changed-passes, opened-passes}

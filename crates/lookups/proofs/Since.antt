@@ -15,7 +15,7 @@ use Rattle.rules.specs.Changes.{out, seat, lastOut}
 use Rattle.rules.specs.Keys.{Move, line, since, at}
 use Rattle.sound.specs.Kept.{Kept, Leaves}
 use Rattle.sound.specs.Test.{Test}
-use Rattle.sound.proofs.Lists.{differ}
+use Rattle.rules.proofs.Lists.{differ}
 use Rattle.sound.proofs.Written.{Written, written}
 use Rattle.sound.proofs.Steps.{kept, out-passes, seat-passes, out-of-seat}
 use Rattle.lookups.proofs.Walks.{walkIn, gone, walk-out}

@@ -12,7 +12,7 @@ use Rattle.rules.specs.Changes.{out}
 use Rattle.rules.specs.Keys.{Walk, at, walk}
 use Rattle.rules.proofs.Walks.{never, stops, goes, comes-zero, comes-suc, walk-stops, walk-goes}
 use Rattle.sound.specs.Kept.{Kept, Leaves}
-use Rattle.sound.proofs.Lists.{differ}
+use Rattle.rules.proofs.Lists.{differ}
 use Rattle.sound.proofs.Written.{Written}
 
 -- the walk of a table

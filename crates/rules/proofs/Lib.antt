@@ -1,7 +1,8 @@
 -- Theorems.
 pub mod WorkedExamples
 pub mod Undo
--- Laws of runs and parts.
+-- Laws of lists, runs and parts.
+pub mod Lists
 pub mod Parts
 pub mod Words
 -- Laws of keys.

@@ -1,12 +1,12 @@
 -- A part of a run that is lent and comes back; a run made of parts of one length.
 -- Assumes nothing.
 use mathlib.Core.Path.{_≡_, refl, sym, ap, ap₂, _∙_}
-use mathlib.Core.List.{List, [], _∷_, _++_}
+use mathlib.Core.List.{List, [], _∷_, _++_, append-assoc}
 use Prim.Native.Nat.{ℕ, zero, suc, _+_, _*_, _-_, _<_, _≤_}
 use native.Mathlib.Nat.{suc-mul, zero-mul, suc-add, zero-add}
 use native.Mathlib.Omega.{arith}
 use lib.ListN.{length, take, drop, getD, set, length-append, length-take, length-drop, length-set, take-append-drop, List·getD-append}
-use lib.Seq.{getD-append-add, set-append-left, length-take-le, take-at, drop-append-add}
+use lib.Seq.{getD-append-add, set-append-left, length-take-le, take-at, drop-at, take-append-add, drop-append-add}
 use Rattle.rules.specs.Table.{_!_, joined}
 
 -- a store past the first list
@@ -66,3 +66,17 @@ All-set (more e a) (suc k) i v = more e (All-set a k i v)
 pub length-joined : {n : ℕ} {ps : List (List ℕ)} → All n ps → length (joined ps) ≡ length ps * n
 length-joined {n} none = sym (zero-mul n)
 length-joined {n} (more {p = p} {ps = ps} e a) = length-append p (joined ps) ∙ omega (arith, suc-mul (length ps) n, length-joined a)
+
+-- a part replaced
+pub joined-with : {n : ℕ} {ps : List (List ℕ)} (new : List ℕ) → All n ps → (k : ℕ) → k < length ps
+    → take (k * n) (joined ps) ++ (new ++ drop n (drop (k * n) (joined ps))) ≡ joined (set ps k new)
+joined-with new none k h = absurd (omega arith)
+joined-with new (more {p = p} {ps = ps} e a) zero h = rw (zero-mul) (ap (λ (l : List ℕ). new ++ l) (drop-at p (joined ps) _ e))
+joined-with {n} new (more {p = p} {ps = ps} e a) (suc k) h =
+    let j : suc k * n ≡ length p + k * n = omega (arith, suc-mul k n) in
+    rw (j, take-append-add p (joined ps) (k * n), drop-append-add p (joined ps) (k * n)) (append-assoc p _ _ ∙ ap (λ (l : List ℕ). p ++ l) (joined-with new a k (omega arith)))
+
+pub All-with : {n : ℕ} {ps : List (List ℕ)} (new : List ℕ) → length new ≡ n → All n ps → (k : ℕ) → All n (set ps k new)
+All-with new e none k = none
+All-with new e (more f a) zero = more e a
+All-with new e (more f a) (suc k) = more f (All-with new e a k)

@@ -1,22 +1,13 @@
 -- Seating undoes taking out: each word that taking b out wrote is written again, with what stood there before. L[W[N]] is one of them.
 -- Assumes nothing.
-use mathlib.Core.Path.{_≡_, sym, ap, _∙_}
-use mathlib.Core.List.{List}
+use mathlib.Core.Path.{_≡_, ap, _∙_}
 use Prim.Native.Nat.{ℕ, _+_, _-_, _≤_}
 use native.Mathlib.Omega.{arith}
-use native.Mathlib.Decide.{ℕ-discrete}
 use lib.ListN.{length, set}
-use lib.Seq.{getD-set-same, getD-set-other, set-getD, set-set}
+use lib.Seq.{getD-set-same, set-set}
 use Rattle.rules.specs.Table.{_!_, Bare, Table}
 use Rattle.rules.specs.Changes.{out, seat, lastOut, takeOut, seatId}
-
--- storing at p what stands at n leaves n's word alone
-pub keeps : (l : List ℕ) (p n : ℕ) → set l p (l ! n) ! n ≡ l ! n
-keeps l p n = elim (ℕ-discrete n p) [ yes e ↦ rw e (ap (λ (m : List ℕ). m ! p) (set-getD l p 0)) | no ne ↦ getD-set-other l p n (l ! n) 0 ne ]
-
--- a store and its undoing
-pub set-back : (l : List ℕ) (i x y : ℕ) → l ! i ≡ y → set (set l i x) i y ≡ l
-set-back l i x y e = set-set l i x y ∙ ap (λ (v : ℕ). set l i v) (sym e) ∙ set-getD l i 0
+use Rattle.rules.proofs.Lists.{keeps, set-back}
 
 -- what taking b out and seating ask of a table: b is in use, and stands in the line; so does the line's last seat
 pub record Stands (T : Bare) (b : ℕ) : Type 0 where

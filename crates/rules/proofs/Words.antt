@@ -11,7 +11,7 @@ use lib.Seq.{drop-drop, getD-take, getD-drop}
 use lib.Dec.{leb, eqb}
 use borrow.Author.Tests.{eq-eqb, le-leb, leb-true, eqb-true}
 use Rattle.rules.specs.Table.{_!_, Bare, Table, parts, joined, words, base, runLength, mostSeats, part, tableFor, tableOf, legal}
-use Rattle.rules.proofs.Parts.{All, none, more, set-joined, part-joined, All-set, length-joined}
+use Rattle.rules.proofs.Parts.{All, none, more, set-joined, part-joined, All-set, length-joined, joined-with, All-with}
 
 -- a run of legal shape
 pub record Legal (w : List ℕ) : Type 0 where
@@ -108,6 +108,14 @@ module _ {w w′ : List ℕ} {s u a : ℕ} {ps : List (List ℕ)} (h : Holds w s
         is = e ∙ ap₂ (λ (l : List ℕ) (n : ℕ). set l n v) (h .is) (past k a i) ∙ ap (λ (l : List ℕ). s ∷ u ∷ l) (set-joined (h .sized) k i v hk hi);
         sized = All-set (h .sized) k i v;
       }
+
+  -- part k replaced, as a function that lends `&mut t[lo..lo + a]` finds it
+  pub holds-with : (k : ℕ) (new : List ℕ) → k < length ps → length new ≡ a
+      → w′ ≡ take (base a k) w ++ (new ++ drop (base a k + a - base a k) (drop (base a k) w)) → Holds w′ s u a (set ps k new)
+  holds-with k new hk long e =
+      let one : base a k + a - base a k ≡ a = omega arith in
+      let two : base a k ≡ suc (suc (k * a)) = omega arith in
+      record { is = e ∙ rw (h .is, one, two) (ap (λ (l : List ℕ). s ∷ u ∷ l) (joined-with new (h .sized) k hk)); sized = All-with new long (h .sized) k }
 
   -- a store of N
   pub holds-count : (n : ℕ) → w′ ≡ set w 1 n → Holds w′ s n a ps

@@ -1,4 +1,6 @@
 // Document 01 as definitions (specs/), its examples (proofs/), and the types that calls speak in.
+ghost use mathlib.Core.Path.{_≡_};
+ghost use Rattle.rules.specs.Answers.{numberOf};
 
 // The paper's bucket.
 pub struct Seat(pub u32);
@@ -18,4 +20,21 @@ pub enum Refusal {
     Last,
     Room,
     Form,
+}
+
+pub fn number(why: Refusal) -> u32
+    ensures { λ r. ⌜ r ≡ numberOf why ⌝ }
+{
+    match why {
+        Refusal::Size => 1,
+        Refusal::Count => 2,
+        Refusal::Id => 3,
+        Refusal::Twice => 4,
+        Refusal::Damaged => 5,
+        Refusal::Full => 6,
+        Refusal::Absent => 7,
+        Refusal::Last => 8,
+        Refusal::Room => 9,
+        Refusal::Form => 10,
+    }
 }

@@ -16,7 +16,7 @@ use Rattle.rules.specs.Changes.{out}
 use Rattle.sound.specs.Kept.{Order}
 use Rattle.sound.specs.Form.{after, Takeable, Canonical}
 use Rattle.sound.specs.Test.{Owes, gone, stays, Cut, stood, moved, Test}
-use Rattle.sound.proofs.Lists.{differ, count-at, zeros-at}
+use Rattle.rules.proofs.Lists.{differ, count-at, zeros-at}
 use Rattle.sound.proofs.Written.{Written, written}
 use Rattle.sound.proofs.Made.{Made, theorem, fewer-still, After, after-is, next-leaves, after-first}
 use Rattle.sound.proofs.Passes.{made-passes}

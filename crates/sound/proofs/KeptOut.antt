@@ -10,7 +10,7 @@ use Rattle.rules.specs.Table.{Bare, _!_}
 use Rattle.rules.specs.Changes.{count, out}
 use Rattle.rules.specs.Keys.{full}
 use Rattle.sound.specs.Kept.{Kept, Order, Leaves}
-use Rattle.sound.proofs.Lists.{differ, length-count, count-at, zeros-at}
+use Rattle.rules.proofs.Lists.{differ, length-count, count-at, zeros-at}
 use Rattle.sound.proofs.Written.{Written, written}
 
 pub kept-full : (a : ℕ) → 1 ≤ a → Kept (full a)

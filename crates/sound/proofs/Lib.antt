@@ -1,5 +1,4 @@
 -- Laws.
-pub mod Lists
 pub mod Fresh
 pub mod Written
 pub mod KeptOut

@@ -14,7 +14,7 @@ use Rattle.rules.specs.Changes.{out, seat}
 use Rattle.rules.proofs.Undo.{Stands, undo}
 use Rattle.sound.specs.Kept.{Kept, Shape, Leaves}
 use Rattle.sound.specs.Form.{after, made, Takeable}
-use Rattle.sound.proofs.Lists.{padded}
+use Rattle.rules.proofs.Lists.{padded}
 use Rattle.sound.proofs.Written.{written}
 use Rattle.sound.proofs.KeptOut.{kept-full, kept-out}
 

@@ -12,7 +12,7 @@ use Rattle.rules.specs.Changes.{count, down, opened}
 use Rattle.rules.specs.History.{Opens}
 use Rattle.sound.specs.Form.{Ids}
 use Rattle.sound.specs.Test.{gone, stays, stood, Test}
-use Rattle.sound.proofs.Lists.{length-down, down-at, counted, zeros-at, length-count, count-at, padded}
+use Rattle.rules.proofs.Lists.{length-down, down-at, counted, zeros-at, length-count, count-at, padded}
 
 module _ (a : ℕ) (ids : List ℕ) (o : Opens a ids) where
   abbrev w : ℕ

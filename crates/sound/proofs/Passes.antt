@@ -12,7 +12,7 @@ use Rattle.rules.specs.Keys.{full}
 use Rattle.sound.specs.Kept.{Kept, Leaves}
 use Rattle.sound.specs.Form.{after, Takeable}
 use Rattle.sound.specs.Test.{Owes, gone, stays, Cut, stood, moved, Test}
-use Rattle.sound.proofs.Lists.{differ, count-at, zeros-at}
+use Rattle.rules.proofs.Lists.{differ, count-at, zeros-at}
 use Rattle.sound.proofs.Written.{Written, written}
 use Rattle.sound.proofs.KeptOut.{kept-full, kept-out}
 use Rattle.sound.proofs.Made.{fewer-still, after-is, next-leaves}

@@ -8,8 +8,8 @@ use native.Mathlib.Decide.{ℕ-discrete}
 use lib.Seq.{getD-set-same, getD-set-other}
 use Rattle.rules.specs.Table.{Bare, _!_}
 use Rattle.rules.specs.Changes.{out}
-use Rattle.rules.proofs.Undo.{keeps}
 use Rattle.sound.specs.Kept.{Kept, Leaves}
+use Rattle.rules.proofs.Lists.{keeps}
 
 -- what taking b out writes, and what it leaves
 pub record Written (T : Bare) (b : ℕ) : Type 0 where

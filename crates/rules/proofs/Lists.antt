@@ -1,13 +1,15 @@
 -- Laws of lists of words that the library lacks.
 -- Assumes nothing.
-use mathlib.Core.Path.{_≡_, refl, ap, _∙_}
+use mathlib.Core.Path.{_≡_, refl, sym, ap, _∙_}
 use mathlib.Core.List.{List, [], _∷_, _++_}
 use Prim.Native.Nat.{ℕ, zero, suc, _+_, _-_, _<_, _≤_}
 use native.Mathlib.Omega.{arith}
-use lib.ListN.{length, replicate}
+use native.Mathlib.Decide.{ℕ-discrete}
+use lib.ListN.{length, set, replicate}
+use lib.Seq.{getD-set-other, set-getD, set-set}
 use mathlib.Core.Logic.{_≢_}
 use Rattle.rules.specs.Table.{_!_}
 use Rattle.rules.specs.Changes.{count, down}
 
 pub length-count : (n i : ℕ) → length (count n i) ≡ n
 length-count zero i = refl
@@ -42,6 +44,17 @@ pub padded : (rs : List ℕ) (m i : ℕ) → length rs ≤ i → (rs ++ replicat
 padded [] m i h = zeros-at m i
 padded (r ∷ rs) m zero h = absurd (omega arith)
 padded (r ∷ rs) m (suc i) h = padded rs m i (omega arith)
+
+-- storing at p what stands at n leaves n's word alone
+pub keeps : (l : List ℕ) (p n : ℕ) → set l p (l ! n) ! n ≡ l ! n
+keeps l p n = elim (ℕ-discrete n p) [ yes e ↦ rw e (set-getD-at l p) | no ne ↦ getD-set-other l p n (l ! n) 0 ne ]
+  where
+    set-getD-at : (l : List ℕ) (p : ℕ) → set l p (l ! p) ! p ≡ l ! p
+    set-getD-at l p = ap (λ (m : List ℕ). m ! p) (set-getD l p 0)
+
+-- a store and its undoing
+pub set-back : (l : List ℕ) (i x y : ℕ) → l ! i ≡ y → set (set l i x) i y ≡ l
+set-back l i x y e = set-set l i x y ∙ ap (λ (v : ℕ). set l i v) (sym e) ∙ set-getD l i 0
 
 -- seats with different words are different
 pub differ : (l : List ℕ) {x y : ℕ} → l ! x ≢ l ! y → x ≢ y

@@ -1,0 +1,138 @@
+// Lays out the words of an opening in a lent run, part by part.
+ghost use mathlib.Core.Path.{_≡_};
+ghost use Prim.Native.Nat.{_+_, _<_, _≤_};
+ghost use lib.ListN.{length, set};
+ghost use Rattle.rules.specs.Table.{Table, base, words, tableFor};
+ghost use Rattle.rules.specs.Changes.{count, opened};
+ghost use Rattle.parts.specs.Shape.{Shape};
+ghost use Rattle.layout.specs.Layout.{firstA, firstR, firstS, openA, openR, openS, withPart, openBare};
+
+// What opening with w ids writes for seat i in A, for entry i of R of a seats, and for seat i in S.
+fn first_a(w: usize, i: usize) -> u32
+    requires { ⌜ i < 65536 ⌝ }
+    ensures { λ r. ⌜ r ≡ firstA w i ⌝ }
+{
+    if i < w { 0 } else { i as u32 }
+}
+
+fn first_r(a: usize, w: usize, i: usize) -> u32
+    requires { ⌜ (i < a) × (w ≤ a) × (a ≤ 65536) ⌝ }
+    ensures { λ r. ⌜ r ≡ firstR a w i ⌝ }
+{
+    if i < a - w { (a - 1 - i) as u32 } else { 0 }
+}
+
+fn first_s(ids: &[u32], i: usize) -> u32
+    ensures { λ r. ⌜ r ≡ firstS (now (ids .entry)) i ⌝ }
+{
+    if i < ids.len() { ids[i] } else { 0 }
+}
+
+fn fill_a(part: &mut [u32], w: usize)
+    requires { ⌜ (length (now part) ≤ 65536) × (w ≤ length (now part)) ⌝ }
+    ensures { λ _. ⌜ now (part .exit) ≡ openA (length (now (part .entry))) w ⌝ }
+{
+    let mut i: usize = 0;
+    while i < part.len() {
+        part[i] = first_a(w, i);
+        i += 1;
+    }
+}
+
+// b at b: in K each seat's own number, in W and L the line of all seats.
+fn fill_own(part: &mut [u32])
+    requires { ⌜ length (now part) ≤ 65536 ⌝ }
+    ensures { λ _. ⌜ now (part .exit) ≡ count (length (now (part .entry))) 0 ⌝ }
+{
+    let mut i: usize = 0;
+    while i < part.len() {
+        part[i] = i as u32;
+        i += 1;
+    }
+}
+
+fn fill_r(part: &mut [u32], w: usize)
+    requires { ⌜ (length (now part) ≤ 65536) × (w ≤ length (now part)) ⌝ }
+    ensures { λ _. ⌜ now (part .exit) ≡ openR (length (now (part .entry))) w ⌝ }
+{
+    let a = part.len();
+    let mut i: usize = 0;
+    while i < part.len() {
+        part[i] = first_r(a, w, i);
+        i += 1;
+    }
+}
+
+fn fill_s(part: &mut [u32], ids: &[u32])
+    requires { ⌜ length (now ids) ≤ length (now part) ⌝ }
+    ensures { λ _. ⌜ now (part .exit) ≡ openS (length (now (part .entry))) (now (ids .entry)) ⌝ }
+{
+    let mut i: usize = 0;
+    while i < part.len() {
+        part[i] = first_s(ids, i);
+        i += 1;
+    }
+}
+
+// Each part of the run is lent to its filling.
+fn open_a(t: &mut [u32], a: usize, w: usize)
+    requires { ⌜ (Shape (now t) a) × (w ≤ a) ⌝ }
+    ensures { λ _. ⌜ now (t .exit) ≡ withPart a 0 (openA a w) (now (t .entry)) ⌝ }
+{
+    let lo = 2 + parts::A * a;
+    fill_a(&mut t[lo..lo + a], w);
+}
+
+fn open_own(t: &mut [u32], a: usize, k: usize)
+    requires { ⌜ (Shape (now t) a) × (base a k + a ≤ length (now t)) ⌝ }
+    ensures { λ _. ⌜ now (t .exit) ≡ withPart a k (count a 0) (now (t .entry)) ⌝ }
+{
+    let lo = 2 + k * a;
+    fill_own(&mut t[lo..lo + a]);
+}
+
+fn open_r(t: &mut [u32], a: usize, w: usize)
+    requires { ⌜ (Shape (now t) a) × (w ≤ a) ⌝ }
+    ensures { λ _. ⌜ now (t .exit) ≡ withPart a 4 (openR a w) (now (t .entry)) ⌝ }
+{
+    let lo = 2 + parts::R * a;
+    fill_r(&mut t[lo..lo + a], w);
+}
+
+fn open_s(t: &mut [u32], a: usize, ids: &[u32])
+    requires { ⌜ (Shape (now t) a) × (length (now ids) ≤ a) ⌝ }
+    ensures { λ _. ⌜ now (t .exit) ≡ withPart a 5 (openS a (now (ids .entry))) (now (t .entry)) ⌝ }
+{
+    let lo = 2 + parts::S * a;
+    fill_s(&mut t[lo..lo + a], ids);
+}
+
+fn set_head(t: &mut [u32], a: usize, w: usize)
+    requires { ⌜ (Shape (now t) a) × (w ≤ a) ⌝ }
+    ensures { λ _. ⌜ now (t .exit) ≡ set (set (now (t .entry)) 0 a) 1 w ⌝ }
+{
+    t[0] = a as u32;
+    t[1] = w as u32;
+}
+
+// All but the ids.
+pub fn lay_bare(t: &mut [u32], a: usize, w: usize)
+    requires { ⌜ (Shape (now t) a) × (w ≤ a) ⌝ }
+    ensures { λ _. ⌜ now (t .exit) ≡ words (record { bare = openBare a w; S = tableFor a (now (t .entry)) .S }) ⌝ }
+{
+    set_head(t, a, w);
+    open_a(t, a, w);
+    open_own(t, a, parts::K);
+    open_own(t, a, parts::W);
+    open_own(t, a, parts::L);
+    open_r(t, a, w);
+}
+
+// The whole opening.
+pub fn lay_out(t: &mut [u32], a: usize, ids: &[u32])
+    requires { ⌜ (Shape (now t) a) × (length (now ids) ≤ a) ⌝ }
+    ensures { λ _. ⌜ now (t .exit) ≡ words (opened a (now (ids .entry))) ⌝ }
+{
+    lay_bare(t, a, ids.len());
+    open_s(t, a, ids);
+}

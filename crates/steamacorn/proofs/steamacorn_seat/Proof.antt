@@ -1,0 +1,24 @@
+-- `steamacorn::steamacorn_seat` meets its contract: it tells what the call answered.
+-- Assumes nothing.
+use borrow.Author.Needs.{needs}
+use mathlib.Core.Path.{sym, ap, _∙_}
+use Rattle.changes.specs.declared.Changed.{Changed}
+use Rattle.changes.specs.Calls.{changedAnswer, outcome}
+use Rattle.steamacorn.proofs.Tell.{leaves-fine, leaves-refused}
+use Rattle.steamacorn.proofs.steamacorn_seat.Statement.{statement}
+use Rattle.steamacorn.proofs.steamacorn_seat.Tie as tie
+
+returns : tie.Need-returns
+returns c =
+    let k = c .before in
+    let r = c .before .before .before .before .before in
+    leaves-fine _ _ (r .seat-server .last .0) _ (ap (λ (x : Changed). outcome (changedAnswer x) (r .seat-server .last .0)) (sym (k .b .given .1)) ∙ r .seat-server .ensures)
+
+returns-2 : tie.Need-returns-2
+returns-2 c =
+    let k = c .before .before in
+    let r = c .before .before .before .before .before .before in
+    leaves-refused _ (k .why .given .0 .0) _ (r .seat-server .last .0) _ (ap (λ (x : Changed). outcome (changedAnswer x) (r .seat-server .last .0)) (sym (k .why .given .1)) ∙ r .seat-server .ensures) (c .number .ensures)
+
+pub steamacorn-seat-spec : {M : Type 1} → statement M
+steamacorn-seat-spec = tie.close (tie.spec (λ c κs. search needs) (λ c. search needs) (λ c. search needs) (λ c κs. search needs) (λ c. search needs) returns (λ c. search needs) returns-2)

@@ -1,0 +1,87 @@
+// What C and Rust link: each call answers its number, and its values go out through the last parameters.
+ghost use mathlib.Core.Path.{_≡_};
+ghost use mathlib.Core.List.{[], _∷_};
+ghost use Rattle.audit.specs.Audit.{auditCall};
+ghost use Rattle.changes.specs.Calls.{openCall, seatCall, outCall};
+ghost use Rattle.find.specs.Find.{findCall};
+ghost use Rattle.steamacorn.specs.Exports.{Told, Changes};
+use audit::Audited;
+use audit::audit_table;
+use changes::Changed;
+use changes::Opened;
+use changes::open_table;
+use changes::seat_server;
+use changes::take_out;
+use find::Lookup;
+use find::find_server;
+use rules::number;
+
+#[no_mangle]
+pub extern "C" fn steamacorn_open(table: &mut [u32], a: u32, ids: &[u32], n: &mut u32) -> u32
+    ensures { λ r. ⌜ Changes (openCall (now (table .entry)) a (now (ids .entry))) r (now (table .exit)) (now (n .entry) ∷ []) (now (n .exit) ∷ []) ⌝ }
+{
+    match open_table(table, a, ids) {
+        Opened::Seats(used) => {
+            *n = used;
+            0
+        }
+        Opened::Refused(why) => number(why),
+    }
+}
+
+#[no_mangle]
+pub extern "C" fn steamacorn_seat(table: &mut [u32], id: u32, seat: &mut u32) -> u32
+    ensures { λ r. ⌜ Changes (seatCall (now (table .entry)) id) r (now (table .exit)) (now (seat .entry) ∷ []) (now (seat .exit) ∷ []) ⌝ }
+{
+    match seat_server(table, id) {
+        Changed::At(b) => {
+            *seat = b.0;
+            0
+        }
+        Changed::Refused(why) => number(why),
+    }
+}
+
+#[no_mangle]
+pub extern "C" fn steamacorn_out(table: &mut [u32], id: u32, seat: &mut u32) -> u32
+    ensures { λ r. ⌜ Changes (outCall (now (table .entry)) id) r (now (table .exit)) (now (seat .entry) ∷ []) (now (seat .exit) ∷ []) ⌝ }
+{
+    match take_out(table, id) {
+        Changed::At(b) => {
+            *seat = b.0;
+            0
+        }
+        Changed::Refused(why) => number(why),
+    }
+}
+
+#[no_mangle]
+pub extern "C" fn steamacorn_find(
+    table: &[u32],
+    key: u64,
+    seat: &mut u32,
+    server: &mut u32,
+    draws: &mut u32,
+) -> u32
+    ensures { λ r. ⌜ Told (findCall (now (table .entry)) key) r (now (seat .entry) ∷ now (server .entry) ∷ now (draws .entry) ∷ []) (now (seat .exit) ∷ now (server .exit) ∷ now (draws .exit) ∷ []) ⌝ }
+{
+    match find_server(table, key) {
+        Lookup::On(b, id, d) => {
+            *seat = b.0;
+            *server = id;
+            *draws = d;
+            0
+        }
+        Lookup::Refused(why) => number(why),
+    }
+}
+
+#[no_mangle]
+pub extern "C" fn steamacorn_audit(table: &[u32]) -> u32
+    ensures { λ r. ⌜ Told (auditCall (now (table .entry))) r [] [] ⌝ }
+{
+    match audit_table(table) {
+        Audited::Sound => 0,
+        Audited::Refused(why) => number(why),
+    }
+}
