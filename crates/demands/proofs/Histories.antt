@@ -4,7 +4,6 @@
 use mathlib.Core.Path.{_≡_, refl, sym, ap, _∙_, subst}
 use mathlib.Core.Bool.{cond}
 use mathlib.Core.List.{List, [], _∷_, _++_, reverse, reverse-cons, append-nil, append-assoc, Sublistᴰ, Sublistᴰ·cons, Sublistᴰ·refl, Sublistᴰ·trans, Sublistᴰ·cons-cons}
-use mathlib.Core.Logic.{_≢_}
 use Prim.Native.Nat.{ℕ, zero, suc, _-_}
 use native.Mathlib.Omega.{arith}
 use native.Mathlib.Decide.{ℕ-discrete}
@@ -16,9 +15,12 @@ use Rattle.rules.specs.Table.{_!_, Bare, Table, tableOf}
 use Rattle.rules.specs.Changes.{opened}
 use Rattle.rules.specs.History.{Change, taking, seating, run, Accepted, done, then, Sound}
 use Rattle.rules.proofs.Lists.{zeros-at}
-use Rattle.sound.proofs.Reached.{Passes, changed-passes, opened-passes}
+use Rattle.sound.proofs.Written.{written}
+use Rattle.sound.proofs.KeptOut.{still}
+use Rattle.sound.proofs.Steps.{kept, seat-leaves}
+use Rattle.sound.proofs.Reached.{Passes, leaves, changed-passes, opened-passes}
 use Rattle.changes.proofs.Accepted.{Changes, out-changes, seat-changes, open-opens}
-use Rattle.demands.specs.Histories.{struck, lastGiven, Struck, Histories, Calls, end, out, seat, HistoriesOfCalls}
+use Rattle.demands.specs.Histories.{struck, strike, lastGiven, Struck, Histories, Calls, end, out, seat, HistoriesOfCalls}
 use Rattle.demands.proofs.Stack.{Stack, empty, push, pop, emptied, Makes, nothing, next, makes-append, stack-makes, makes-same, makes-allowed}
 
 -- every word but the ids
@@ -35,17 +37,14 @@ ends {O} {T = T} {unanswered = []} (then {c = seating id b} s ok) p m k =
 holds : {T : Table} {h : List Change} → Accepted T h → Passes T → (x g : ℕ) → (T .bare .A ! x ≡ 0 → T .S ! x ≡ g)
     → run T h .bare .A ! x ≡ 0 → run T h .S ! x ≡ lastGiven x g h
 holds done p x g f = f
-holds {T} (then {c = taking id b} s ok) p x g f = holds ok (changed-passes (taking id b) p s) x g (elim (ℕ-discrete x b) [
-  | yes e ↦ rw (e, getD-set-same (T .bare .A) b (T .bare .used - 1) 0 (omega (arith, s .below, p .test .shape .lenA))) (λ z. absurd (omega (arith, s .two)))
-  | no ne ↦ rw (getD-set-other (T .bare .A) b x (T .bare .used - 1) 0 ne, getD-set-other (T .S) b x 0 0 ne) f
-])
-holds {T} (then {c = seating id b} s ok) p x g f = holds ok (changed-passes (seating id b) p s) x (cond (eqb b x) id g) (rw (s .isLast) (elim (ℕ-discrete b x) [
-  | yes e ↦
-      let below = p .test .order .taken (T .bare .seats - T .bare .used - 1) (omega (arith, s .room)) .0 in
-      rw (← e, eq-eqb b b refl, getD-set-same (T .S) b id 0 (omega (arith, s .isLast, below, p .ids .size))) (λ z. refl)
-  | no ne ↦
-      let off : x ≢ b = λ e. ne (sym e) in
-      rw (ne-eqb b x ne, getD-set-other (T .bare .A) b x 0 0 off, getD-set-other (T .S) b x id 0 off) f
+holds {T} (then {c = taking id b} s ok) p x g f = holds ok (changed-passes (taking id b) p s) x g (λ z.
+    let k = kept (T .bare) (p .test) in
+    let v = leaves p s in
+    let (ne, was) = still (T .bare) b k v (written k v) x z in
+    getD-set-other (T .S) b x 0 0 ne ∙ f was)
+holds {T} (then {c = seating id b} s ok) p x g f = holds ok (changed-passes (seating id b) p s) x (cond (eqb b x) id g) (rw (s .isLast) (elim (ℕ-discrete x b) [
+  | yes e ↦ rw (e, eq-eqb b b refl) (λ z. getD-set-same (T .S) b id 0 (omega (arith, s .isLast, seat-leaves (T .bare) (p .test) (s .room) .below, p .ids .size)))
+  | no ne ↦ rw (ne-eqb b x (λ e. ne (sym e)), getD-set-other (T .bare .A) b x 0 0 ne, getD-set-other (T .S) b x id 0 ne) f
 ]))
 
 -- opening gave seat x id x of the list
@@ -53,6 +52,10 @@ first-given : (ids : List ℕ) (m x : ℕ) → (ids ++ replicate m 0) ! x ≡ id
 first-given [] m x = zeros-at m x
 first-given (id ∷ ids) m zero = refl
 first-given (id ∷ ids) m (suc x) = first-given ids m x
+
+-- of two removals and three seatings one seating is left over
+example : strike (taking 11 1 ∷ taking 12 2 ∷ seating 13 2 ∷ seating 14 1 ∷ seating 15 6 ∷ taking 16 3 ∷ []) ≡ seating 15 6 ∷ taking 16 3 ∷ []
+example = refl
 
 -- what is left out
 snoc : (over unanswered : List Change) (c : Change) (h : List Change) → (over ++ reverse (c ∷ unanswered)) ++ h ≡ (over ++ reverse unanswered) ++ (c ∷ h)

@@ -22,19 +22,21 @@ seatOf w id = placeOf id (tableOf w .S)
 abbrev pub idWord : List ℕ → ℕ → ℕ
 idWord w b = base (w ! 0) 5 + b
 
--- both calls are accepted and answer the same seat, and the one word that differs held the server
+-- Both calls are accepted and answer the server's seat. Every word after them is as it was, except the one that holds the id in that
+-- seat: it held the server, and holds the id.
 pub record Undone (w : List ℕ) (server id : ℕ) : Type 0 where
   pub takenOut : outCall w server .answer ≡ fine (seatOf w server ∷ [])
   pub seatedAgain : seatCall (outCall w server .after) id ≡ done (seatOf w server ∷ []) (set w (idWord w (seatOf w server)) id)
   pub held : w ! idWord w (seatOf w server) ≡ server
 
+-- word 1 is N, the number of servers
 abbrev pub Undo : Type 0
 Undo =
     (w : List ℕ) (server id : ℕ) → Sound w → 2 ≤ w ! 1 → server ≢ 0 → seated w server ≡ true
     → Id id → seated (outCall w server .after) id ≡ false
     → Undone w server id
 
--- and the server's own id is not then seated: it comes back to the same words
+-- the server's own id is one of these, and leaves the very words that were there
 abbrev pub Returns : Type 0
 Returns =
     (w : List ℕ) (server : ℕ) → Sound w → 2 ≤ w ! 1 → server ≢ 0 → seated w server ≡ true
