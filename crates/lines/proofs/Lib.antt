@@ -1,0 +1,4 @@
+pub mod Digits
+pub mod Got
+pub mod Listing
+pub mod Commands
