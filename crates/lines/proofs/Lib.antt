@@ -2,3 +2,4 @@ pub mod Digits
 pub mod Got
 pub mod Listing
 pub mod Commands
+pub mod Long

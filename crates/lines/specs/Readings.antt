@@ -26,6 +26,18 @@ abbrev pub listOf : List ℕ → Listed → Ids
 listOf ids (lists.All n) = all (take n ids)
 listOf ids lists.Broken = broken
 
+-- how many of them
+abbrev pub listCount : Listed → ℕ
+listCount (lists.All n) = n
+listCount lists.Broken = 0
+
+abbrev pub lineCount : Line → ℕ
+lineCount (line.Open a n) = n
+lineCount (line.Seat id) = 0
+lineCount (line.Out id) = 0
+lineCount (line.Find key) = 0
+lineCount line.Unknown = 0
+
 abbrev pub lineOf : List ℕ → Line → Command
 lineOf ids (line.Open a n) = openLine a (take n ids)
 lineOf ids (line.Seat id) = seatLine id

@@ -3,7 +3,7 @@ ghost use mathlib.Core.Path.{_≡_};
 ghost use Prim.Native.Nat.{_+_, _*_, _≤_};
 ghost use lib.ListN.{length, drop};
 ghost use Rattle.lines.specs.Lines.{digits, number, next, last, mostId, idsOf, starts, withA, commandOf};
-ghost use Rattle.lines.specs.Readings.{readOf, idOf, listOf, lineOf};
+ghost use Rattle.lines.specs.Readings.{readOf, idOf, listOf, listCount, lineOf, lineCount};
 
 // A place in a line.
 pub struct Cursor {
@@ -113,7 +113,7 @@ impl Cursor {
     // The ids from here to the line's end, put into `into`.
     fn ids(self, s: &[u8], into: &mut [u32]) -> Listed
         requires { ⌜ length (now s) ≤ 2 * length (now into) ⌝ }
-        ensures { λ r. ⌜ listOf (now (into .exit)) r ≡ idsOf (length (drop (self .at) (now (s .entry))) + 1) (drop (self .at) (now (s .entry))) ⌝ }
+        ensures { λ r. ⌜ (listOf (now (into .exit)) r ≡ idsOf (length (drop (self .at) (now (s .entry))) + 1) (drop (self .at) (now (s .entry)))) × (listCount r ≤ length (now (into .exit))) ⌝ }
     {
         let mut at = self.at;
         let mut n: usize = 0;
@@ -171,7 +171,7 @@ fn id_line(s: &[u8], word: usize) -> Id
 
 fn open_line(s: &[u8], into: &mut [u32]) -> Line
     requires { ⌜ length (now s) ≤ 2 * length (now into) ⌝ }
-    ensures { λ r. ⌜ lineOf (now (into .exit)) r ≡ withA (next mostId (drop 4 (now (s .entry)))) ⌝ }
+    ensures { λ r. ⌜ (lineOf (now (into .exit)) r ≡ withA (next mostId (drop 4 (now (s .entry))))) × (lineCount r ≤ length (now (into .exit))) ⌝ }
 {
     let Number::Value(a, c) = (Cursor { at: 4 }).next(s, 0xffff_ffff) else {
         return Line::Unknown;
@@ -185,7 +185,7 @@ fn open_line(s: &[u8], into: &mut [u32]) -> Line
 // The command that a line is. The ids of an opening go into `into`.
 pub fn command(s: &[u8], into: &mut [u32]) -> Line
     requires { ⌜ length (now s) ≤ 2 * length (now into) ⌝ }
-    ensures { λ r. ⌜ lineOf (now (into .exit)) r ≡ commandOf (now (s .entry)) ⌝ }
+    ensures { λ r. ⌜ (lineOf (now (into .exit)) r ≡ commandOf (now (s .entry))) × (lineCount r ≤ length (now (into .exit))) ⌝ }
 {
     if starts_with(s, b"open") {
         return open_line(s, into);

@@ -37,7 +37,7 @@ returns c =
     let e = sym (ap (readOf (s .args .s .now)) (c .enum-told .given .1)) ∙ c .before .before .next .ensures in
     let inv = l .loop .inv .2 in
     let f = one-less (length (s .args .s .now) - s .args .self .at) (length (s .args .s .now) - l .loop .at) (l .loop .n) (l .loop .inv .1) (omega arith) in
-    rw (length-drop) (ap (prefixed (take (l .loop .n) (l .loop .into))) (list-broken (s .args .s .now) (l .loop .at) _ (omega arith) e) ∙ (rw f at inv))
+    (rw (length-drop) (ap (prefixed (take (l .loop .n) (l .loop .into))) (list-broken (s .args .s .now) (l .loop .at) _ (omega arith) e) ∙ (rw f at inv)), omega arith)
 
 -- a turn's number
 turn : (c : tie.After-known-told Inv-loop μ-loop) →
@@ -88,7 +88,7 @@ returns-2 c =
     let s = c .before .before .before .before in
     let inv = l .loop .inv .2 in
     let f : length (s .args .s .now) - s .args .self .at + 1 - l .loop .n ≡ suc (length (s .args .s .now) - s .args .self .at - l .loop .n) = omega (arith, l .loop .inv .1) in
-    rw (length-drop) (sym (list-end (s .args .s .now) (l .loop .at) _ (take (l .loop .n) (l .loop .into)) (omega arith)) ∙ (rw f at inv))
+    (rw (length-drop) (sym (list-end (s .args .s .now) (l .loop .at) _ (take (l .loop .n) (l .loop .into)) (omega arith)) ∙ (rw f at inv)), omega (arith, l .loop .inv, s .pre))
 
 pub ids-spec : {M : Type 1} → statement M
 ids-spec =

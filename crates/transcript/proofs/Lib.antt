@@ -1,0 +1,5 @@
+pub mod Stored
+pub mod Decimals
+pub mod Saying
+pub mod Tables
+pub mod Turns
