@@ -7,9 +7,10 @@ use Prim.Native.Nat.{ℕ, zero, suc, _+_, _*_, _-_, _<_, _≤_, max}
 use native.Mathlib.Numerals.{add-one}
 use native.Mathlib.Omega.{arith}
 use native.Mathlib.Decide.{decLt}
-use lib.ListN.{length, take, drop, length-drop, drop-of-length-le, take-append-drop}
+use lib.ListN.{length, take, drop, length-append, length-drop, drop-of-length-le, take-append-drop}
 use lib.Seq.{drop-cons, drop-drop, length-take-le}
 use borrow.Author.Tests.{eq-eqb, ne-eqb}
+use Rattle.io.specs.Counts.{Counts}
 use Rattle.rules.specs.Table.{_!_}
 use Rattle.rules.specs.Answers.{Answer, Outcome}
 use Rattle.lines.specs.Lines.{joins, linesOf, commandOf}
@@ -121,3 +122,8 @@ put-written l₀ l₁ to bs p h =
       count = omega (arith, p .next);
       bytes = sym (take-append-drop to l₁) ∙ ap₂ (λ (x y : List ℕ). x ++ y) (put-front l₀ l₁ 0 to bs p f) (put-behind l₀ l₁ 0 to bs p f);
     }
+
+pub written-counts : {text before after : List ℕ} {r : ℕ} → Written text r before after → Counts r after
+written-counts {text} {before} {after} {r} w =
+    let h : r ≤ length after = omega (arith, w .count, ap length (w .bytes), length-append text (drop r before)) in
+    (h, sym (length-take-le r after h))

@@ -4,6 +4,7 @@ ghost use mathlib.Core.List.{[], _∷_, _++_};
 ghost use Prim.Native.Nat.{_+_, _*_, _≤_, _<_, max};
 ghost use lib.ListN.{length, replicate};
 ghost use lib.Seq.{sets};
+ghost use Rattle.io.specs.Counts.{Counts};
 ghost use Rattle.transcript.specs.Printing.{decimal, spaced, said, okWord, noWord, printed};
 ghost use Rattle.transcript.specs.Replies.{replyAnswer, Put, tableIn, After, Ends, Lent, Written};
 ghost use Rattle.transcript.specs.Transcript.{reopened, respond, replies, transcript};
@@ -244,6 +245,7 @@ fn run_lines(input: &[u8], t: &mut [u32], ids: &mut [u32], out: &mut [u8]) -> us
 // From the input's bytes to the output's, and how many those are.
 pub fn run(input: &[u8], out: &mut [u8; 24576]) -> usize
     ensures { λ r. ⌜ Written (transcript (now (input .entry))) r (now (out .entry)) (now (out .exit)) ⌝ }
+    ensures { λ r. ⌜ Counts r (now (out .exit)) ⌝ }
 {
     if 4096 < input.len() {
         return put_reply(out, 0, Reply::No(Refusal::Room));

@@ -9,7 +9,7 @@ use lib.ListN.{length}
 use Rattle.rules.specs.declared.Refusal.the-variants.{Room}
 use Rattle.transcript.specs.Transcript.{transcript}
 use Rattle.transcript.proofs.Saying.{refused-most}
-use Rattle.transcript.proofs.Turns.{put-written}
+use Rattle.transcript.proofs.Turns.{put-written, written-counts}
 use Rattle.transcript.proofs.run.Statement.{statement}
 use Rattle.transcript.proofs.run.Tie as tie
 
@@ -24,14 +24,16 @@ returns c =
     let s = c .before .before .before .before in
     let over : 4096 < length (s .args .input .now) = search needs in
     let n : length (s .args .out .now) ≡ 24576 = search needs in
-    rw (lt-ltb 4096 _ over) (put-written _ _ _ _ (c .put-reply .ensures) (omega (arith, refused-most Room, n)))
+    let w = put-written _ _ _ _ (c .put-reply .ensures) (omega (arith, refused-most Room, n)) in
+    rw (lt-ltb 4096 _ over) (w, written-counts w)
 
 returns-2 : tie.Need-returns-2
 unfolding transcript
 returns-2 c =
     let s = c .before .before .before .before .before .before .before .before in
     let fits : length (s .args .input .now) ≤ 4096 = search needs in
-    rw (le-ltb 4096 _ fits) (c .before .before .run-lines .ensures)
+    let w = c .before .before .run-lines .ensures in
+    rw (le-ltb 4096 _ fits) (w, written-counts w)
 
 pub run-spec : {M : Type 1} → statement M
 run-spec =
