@@ -21,7 +21,7 @@ not-got x rest e = let z : _≡_ {A = ℕ} 0 1 = cc in absurd (omega arith)
 here : (lim k v x : ℕ) (bs rest : List ℕ) → v ≤ lim → k + length rest ≤ length bs → got v rest ≡ got x rest → Got lim k bs x rest
 here lim k v x bs rest h l e = let same : v ≡ x = cc in record { most = omega arith; shorter = l }
 
-both : (p q : Bool) → (p && q) ≡ true → (p ≡ true) × (q ≡ true)
+pub both : (p q : Bool) → (p && q) ≡ true → (p ≡ true) × (q ≡ true)
 both true q e = (refl, e)
 both false q e = let z : _≡_ {A = ℕ} 0 1 = cc in absurd (omega arith)
 

@@ -3,3 +3,4 @@ pub mod Decimals
 pub mod Saying
 pub mod Tables
 pub mod Turns
+pub mod Opposites
