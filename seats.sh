@@ -6,7 +6,8 @@ cd "$(dirname "$0")"
 
 program=target/bin/seats
 if [ ! -f "$program" ] || [ -n "$(find crates crates.txt -type f -newer "$program" -print -quit)" ]; then
-    rt check seats >&2 </dev/null
+    echo "seats.sh: proving and building" >&2
+    said=$(rt check seats 2>&1 </dev/null) || { printf '%s\n' "$said" >&2; exit 1; }
 fi
 kit=$(dirname "$(dirname "$(rt doc)")")
 emulator=$kit/on/$(uname -m)/toolchain/bin/qemu-x86_64

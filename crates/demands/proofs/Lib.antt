@@ -1,6 +1,7 @@
 -- Laws.
 pub mod Stack
 -- Theorems.
+pub mod Audit
 pub mod Undo
 pub mod Histories
 pub mod Keys

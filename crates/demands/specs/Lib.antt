@@ -1,3 +1,5 @@
+-- Demand 2: the audit.
+pub mod Audit
 -- Demand 3, sentence by sentence.
 pub mod Undo
 pub mod Histories
