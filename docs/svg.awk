@@ -3,7 +3,8 @@
 BEGIN { FS = "," }
 
 function open_svg(width, height, what) {
-    printf "<svg xmlns=\"http://www.w3.org/2000/svg\" viewBox=\"0 0 %d %d\" width=\"%d\" height=\"%d\"", width, height, width, height
+    printf "<svg xmlns=\"http://www.w3.org/2000/svg\" viewBox=\"0 0 %d %d\"", width, height
+    printf " width=\"%d\" height=\"%d\"", width, height
     printf " font-family=\"sans-serif\" font-size=\"12\" role=\"img\">\n<title>%s</title>\n", what
     printf "<rect width=\"%d\" height=\"%d\" fill=\"#ffffff\"/>\n", width, height
 }
@@ -27,7 +28,8 @@ function trace(points, colour, more) {
 }
 
 function dot(x, y, radius, fill, stroke) {
-    printf "<circle cx=\"%.1f\" cy=\"%.1f\" r=\"%.1f\" fill=\"%s\" stroke=\"%s\" stroke-width=\"1.5\"/>\n", x, y, radius, fill, stroke
+    printf "<circle cx=\"%.1f\" cy=\"%.1f\" r=\"%.1f\" fill=\"%s\"", x, y, radius, fill
+    printf " stroke=\"%s\" stroke-width=\"1.5\"/>\n", stroke
 }
 
 # where a value stands between lo and hi, drawn from `from` to `to`

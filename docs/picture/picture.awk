@@ -17,19 +17,23 @@ NR == 1 { next }
     if (stop == 0 && $10 > 0) stop = $1
 }
 
-# where a change stands, the rests before it counted in
-function across(change, left, right, i, x) {
-    x = change
-    for (i = 1; i <= phases; i++) if (change > rests[i]) x += pause
-    return place(x, 0, changes + (phases + 1) * pause, left, right)
+# where the nth of all units stands, and where a change does, the rests before it counted in
+function unit(n, left, right) { return place(n, 0, changes + (phases + 1) * pause, left, right) }
+
+function units(change, i, n) {
+    n = change
+    for (i = 1; i <= phases; i++) if (change > rests[i]) n += pause
+    return n
 }
+
+function across(change, left, right) { return unit(units(change), left, right) }
 
 # the points of a trace of keys at home, up to a change
 function steps(homes, last, left, right, top, bottom, c, points, y) {
     y = level(100000, top, bottom)
     points = sprintf("%.1f,%.1f ", left, y)
     for (c = 1; c <= last; c++) {
-        points = points sprintf("%.1f,%.1f ", across(c, left, right) - place(1, 0, changes + (phases + 1) * pause, 0, right - left), y)
+        points = points sprintf("%.1f,%.1f ", unit(units(c) - 1, left, right), y)
         y = level(homes[c], top, bottom)
         points = points sprintf("%.1f,%.1f ", across(c, left, right), y)
     }
@@ -38,14 +42,16 @@ function steps(homes, last, left, right, top, bottom, c, points, y) {
 
 function level(keys, top, bottom) { return place(keys, 75000, 102500, bottom, top) }
 
-function frame(left, right, top, bottom, words, k, i) {
+function frame(left, right, top, bottom, words, k, i, middle) {
     title(left, top - 14, words)
     for (k = 75000; k <= 100000; k += 5000) {
         segment(left, level(k, top, bottom), right, level(k, top, bottom), "#e4e4e4")
         if (left < 200) text(left - 8, level(k, top, bottom) + 4, "end", grouped(k))
     }
-    for (i = 1; i <= phases; i++)
-        text((across(rests[i] + 1, left, right) + across(rests[i] + 60, left, right)) / 2, bottom + 18, "middle", i % 2 ? "60 fail" : "and return")
+    for (i = 1; i <= phases; i++) {
+        middle = (across(rests[i] + 1, left, right) + across(rests[i] + 60, left, right)) / 2
+        text(middle, bottom + 18, "middle", i % 2 ? "60 fail" : "and return")
+    }
 }
 
 # beneath: for each change the keys that it moved wrongly, and the lookups that do not end after it
@@ -56,13 +62,14 @@ function strip(bads, ends, last, left, right, top, bottom, c, k, x) {
     }
     for (c = 1; c <= changes; c++) {
         x = across(c, left, right)
-        if (ends[c] > 0) bar(x, across(c + 1, left, right), place(ends[c], 0, 80, bottom, top), bottom, c > last ? 0.35 : 1)
+        if (ends[c] > 0) bar(x, across(c + 1, left, right), place(ends[c], 0, 80, bottom, top), bottom, c > last)
         if (bads[c] > 0) dot(x, place(bads[c], 0, 80, bottom, top), 1.6, "#333333", "#333333")
     }
 }
 
-function bar(x, until, top, bottom, opacity) {
-    printf "<rect x=\"%.1f\" y=\"%.1f\" width=\"%.1f\" height=\"%.1f\" fill=\"%s\" opacity=\"%s\"/>\n", x, top, until - x, bottom - top, red, opacity
+function bar(x, until, top, bottom, pale) {
+    printf "<rect x=\"%.1f\" y=\"%.1f\" width=\"%.1f\" height=\"%.1f\"", x, top, until - x, bottom - top
+    printf " fill=\"%s\" opacity=\"%s\"/>\n", red, pale ? 0.35 : 1
 }
 
 function most(numbers, c, highest) {
@@ -70,8 +77,9 @@ function most(numbers, c, highest) {
     return highest + 0
 }
 
-function tally(bads, all, ends) {
-    return grouped(sum(bads)) " of " grouped(sum(all)) " moves were wrong; " (most(ends) ? "up to " most(ends) " lookups never end" : "every lookup ends")
+function tally(bads, all, ends, of_lookups) {
+    of_lookups = most(ends) ? "up to " most(ends) " lookups never end" : "every lookup ends"
+    return grouped(sum(bads)) " of " grouped(sum(all)) " moves were wrong; " of_lookups
 }
 
 function sum(numbers, c, total) {
@@ -91,7 +99,8 @@ END {
     segment(x - 6, y + 6, x + 6, y - 6, red, "stroke-width=\"3\"")
     text(x + 12, y - 6, "start", "change " stop ": a lookup")
     text(x + 12, y + 9, "start", "goes round for good")
-    text(80, 30, "start", "Keys, of 100,000, on the server they began with. 300 servers; a rack of 60 fails and returns, twice.")
+    words = "Of 100,000 keys, those on the server they began with. A rack of 60 of 300 servers fails and returns, twice."
+    text(80, 30, "start", words)
 
     text(80, 362, "start", tally(wrongly, moved, lost))
     strip(wrongly, lost, changes, 80, 500, 376, 440)

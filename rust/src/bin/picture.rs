@@ -1,8 +1,8 @@
-//! Replays a history through the library and through a copy of the rule that forgets one line, and prints for each change
-//! what became of 100,000 keys. `docs/picture/draw` makes docs/picture.svg of it.
+//! Replays a history through the library and through a copy of the rule that forgets one line, and prints for each
+//! change what became of 100,000 keys. `docs/picture/draw` makes docs/picture.svg of it.
 //!
-//! 300 servers, each in its seat. The rack with the last 60 seats loses its power, server by server, and gets it back; and
-//! once more, in another order.
+//! 300 servers, each in its seat. The rack with the last 60 seats loses its power, server by server, and gets it back;
+//! and once more, in another order.
 use steamacorn::model::find::{by_arrays, first_of, pick_of, BySets};
 use steamacorn::model::parts::Parts;
 use steamacorn::model::splitmix::output;
@@ -80,7 +80,8 @@ fn main() {
     open(&mut table, SERVERS, &ids).expect("accepted");
     let mut copy = Parts::opened(SERVERS, &ids);
 
-    let by_library = |table: &[u32]| keys.iter().map(|key| find(table, *key).expect("sound").server).collect::<Vec<_>>();
+    let by_library =
+        |table: &[u32]| keys.iter().map(|key| find(table, *key).expect("sound").server).collect::<Vec<_>>();
     let by_copy = |copy: &Parts| {
         let at = |key| by_arrays(copy, first_of(key, SERVERS), |b, n| pick_of(key, b, n));
         keys.iter().map(|key| at(*key).map_or(0, |found| found.server)).collect::<Vec<_>>()
