@@ -48,9 +48,9 @@ enum {
 /* The words of a table of a seats. */
 #define STEAMACORN_WORDS(a) (2 + 6 * (size_t)(a))
 
-/* The bytes of the record of a table of a seats with n of them in use, and the most that they can be. */
-#define STEAMACORN_RECORD_BYTES(a, n) (6 + 4 * ((size_t)(a) - (size_t)(n)) + 8 * (size_t)(n))
-#define STEAMACORN_MOST_RECORD_BYTES(a) STEAMACORN_RECORD_BYTES(a, a)
+/* The bytes of the record of a table of a seats with n of them in use, 6 + 4(a-n) + 8n, and the most they can be. */
+#define STEAMACORN_RECORD_BYTES(a, n) (6 + 4 * (size_t)(a) + 4 * (size_t)(n))
+#define STEAMACORN_MOST_RECORD_BYTES(a) (6 + 8 * (size_t)(a))
 
 /*
  * Opens a table of a seats with a list of ids: seat i gets id i, the other seats are out of use.
