@@ -1,5 +1,5 @@
 #!/usr/bin/env bash
-# Installs the header, the archive, the pkg-config file and, where it was built, the line program: ./install.sh PREFIX
+# Installs the header, the archive, the pkg-config file and the line program: ./install.sh PREFIX
 # DESTDIR, if set, stands before the prefix in every place that is written, and in no file.
 #
 # STEAMACORN_LIB names the directory of another archive, to be taken in place of the one that rt writes.
@@ -31,6 +31,6 @@ Cflags: -I\${includedir}
 Libs: -L\${libdir} -lsteamacorn
 PC
 if grep -q '^seats:' crates.txt; then
-    [ -x target/bin/seats ] || rt check seats
+    rt check seats
     install -D -m 755 target/bin/seats "$to/bin/seats"
 fi

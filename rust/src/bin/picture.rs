@@ -2,7 +2,7 @@
 //! change what became of 100,000 keys. `docs/picture/draw` makes docs/picture.svg of it.
 //!
 //! 300 servers, each in its seat. The rack with the last 60 seats loses its power, server by server, and gets it back;
-//! and once more, in another order.
+//! and once more, in another order. The rack and the seed are chosen so that the fault shows: docs/DECISIONS.md.
 use steamacorn::model::find::{by_arrays, first_of, pick_of, BySets};
 use steamacorn::model::parts::Parts;
 use steamacorn::model::splitmix::output;
