@@ -1,6 +1,5 @@
 /*
- * The same rules in C, with no check that a rule does not name: no bound of an index, and in find none at all (a key's
- * way is followed as if every table were sound). The signatures are the library's, so that both are called alike.
+ * The same rules in C, with no check that a rule does not name: no bound of an index. The signatures are the library's, so that both are called alike.
  */
 #include <stddef.h>
 #include <stdint.h>
@@ -21,8 +20,43 @@ static inline uint64_t output(uint64_t n, uint64_t k)
     return z ^ (z >> 31);
 }
 
+static int legal(const uint32_t *table, size_t words)
+{
+    return words >= 2 && table[0] >= 1 && table[0] <= MOST_SEATS && words == 2 + 6 * (size_t)table[0];
+}
+
 uint32_t baseline_find(const uint32_t *restrict table, size_t words, uint64_t key, uint32_t *restrict seat,
                        uint32_t *restrict server, uint32_t *restrict draws)
+{
+    if (!legal(table, words))
+        return SIZE;
+    PARTS(const, table);
+    uint32_t b = (uint32_t)(output(1, key) % a), taken = 1, bound;
+    while ((bound = A[b]) != 0) {
+        uint32_t h = (uint32_t)(output((uint64_t)b + 1, key) % bound), left = a;
+        for (;;) {
+            if (h >= a)
+                return DAMAGED;
+            if (A[h] < bound)
+                break;
+            if (left-- == 0)
+                return DAMAGED;
+            h = K[h];
+        }
+        b = h;
+        taken++;
+    }
+    if (S[b] == 0)
+        return DAMAGED;
+    *seat = b;
+    *server = S[b];
+    *draws = taken;
+    return 0;
+}
+
+/* A key's way followed as if every table were sound: no SIZE, no DAMAGED. */
+uint32_t baseline_bare_find(const uint32_t *restrict table, size_t words, uint64_t key, uint32_t *restrict seat,
+                            uint32_t *restrict server, uint32_t *restrict draws)
 {
     PARTS(const, table);
     uint32_t b = (uint32_t)(output(1, key) % a), taken = 1, bound;
@@ -38,11 +72,6 @@ uint32_t baseline_find(const uint32_t *restrict table, size_t words, uint64_t ke
     *server = S[b];
     *draws = taken;
     return 0;
-}
-
-static int legal(const uint32_t *table, size_t words)
-{
-    return words >= 2 && table[0] >= 1 && table[0] <= MOST_SEATS && words == 2 + 6 * (size_t)table[0];
 }
 
 static int occurs(const uint32_t *list, size_t count, uint32_t id)

@@ -23,6 +23,7 @@ pub struct InRust;
 
 extern "C" {
     fn baseline_find(t: *const u32, words: usize, key: u64, seat: *mut u32, server: *mut u32, draws: *mut u32) -> u32;
+    fn baseline_bare_find(t: *const u32, n: usize, key: u64, seat: *mut u32, server: *mut u32, draws: *mut u32) -> u32;
     fn baseline_out(table: *mut u32, words: usize, id: u32, seat: *mut u32) -> u32;
     fn baseline_seat(table: *mut u32, words: usize, id: u32, seat: *mut u32) -> u32;
     fn baseline_bare_out(table: *mut u32, words: usize, id: u32, seat: *mut u32) -> u32;
@@ -113,6 +114,13 @@ impl Calls for InRust {
     fn load(table: &mut [u32], record: &[u8]) -> u32 {
         safe::load(table, record).expect("accepted")
     }
+}
+
+/// A lookup in C that tests nothing: a damaged table can hold it for ever.
+pub fn bare_find(table: &[u32], key: u64) -> (u32, u32, u32) {
+    let (mut seat, mut server, mut draws) = (0, 0, 0);
+    fine(unsafe { baseline_bare_find(table.as_ptr(), table.len(), key, &mut seat, &mut server, &mut draws) });
+    (seat, server, draws)
 }
 
 /// A change in C that looks at nothing: the stores alone, of a table that is believed to be sound.

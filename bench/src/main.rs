@@ -5,7 +5,7 @@ mod measure;
 mod safe;
 
 use alternatives::{Anchor, Balancer, Hrw, Jump, Maglev, Ring};
-use calls::{bare_out_and_seat, Calls, InC, InRust, Library};
+use calls::{bare_find, bare_out_and_seat, Calls, InC, InRust, Library};
 use measure::{side_by_side, time};
 use safe::output;
 use std::fmt::Write;
@@ -66,14 +66,17 @@ macro_rules! row {
     }};
 }
 
+/// Every key of the state is looked up.
+fn look_up_all(state: &mut State, find: impl Fn(&[u32], u64) -> (u32, u32, u32)) {
+    let total = state.keys.iter().fold(0, |sum: u32, key| {
+        let (seat, server, draws) = find(&state.table, *key);
+        sum.wrapping_add(seat).wrapping_add(server).wrapping_add(draws)
+    });
+    state.turn = total as usize;
+}
+
 fn find_row() -> Row {
-    row!("find", 1024, C, state => {
-        let total = state.keys.iter().fold(0, |sum: u32, key| {
-            let (seat, server, draws) = C::find(&state.table, *key);
-            sum.wrapping_add(seat).wrapping_add(server).wrapping_add(draws)
-        });
-        state.turn = total as usize;
-    })
+    row!("find", 1024, C, state => look_up_all(state, C::find))
 }
 
 fn call_rows() -> Vec<Row> {
@@ -84,6 +87,8 @@ fn call_rows() -> Vec<Row> {
             assert_eq!(C::seat(&mut state.table, id), left);
         }),
         row!("audit", 1, C, state => C::audit(&state.table)),
+        row!("save", 1, C, state => assert_eq!(C::save(&state.table, &mut state.record), state.record.len())),
+        row!("load", 1, C, state => assert_eq!(C::load(&mut state.loaded, &state.record), state.table[1])),
     ]
 }
 
@@ -127,6 +132,19 @@ fn finds(csv: &mut String, growth: &mut Vec<String>) {
             by_size.push(times[0]);
         }
         growth.push(grown(&format!("find, {} of 100 out", out_of_100), &by_size));
+    }
+    println!(
+        "\nThe library to C that tests nothing, neither SIZE nor DAMAGED, and that a damaged table can hold for ever:"
+    );
+    for out_of_100 in FIND_OUT {
+        let ratios = SEATS.map(|a| {
+            let (mut state, mut bare) = (State::new(a, out_of_100), State::new(a, out_of_100));
+            let mut units: [&mut dyn FnMut(); 2] =
+                [&mut || look_up_all(&mut state, Library::find), &mut || look_up_all(&mut bare, bare_find)];
+            let times = side_by_side(&mut units, 1024, ROW / 3);
+            format!("{:.2}", times[0] / times[1])
+        });
+        println!("- {} of 100 out, a = 64, 512, 2048: {}", out_of_100, ratios.join(", "));
     }
 }
 
