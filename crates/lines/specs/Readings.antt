@@ -2,7 +2,11 @@
 use mathlib.Core.List.{List, []}
 use Prim.Native.Nat.{ℕ}
 use lib.ListN.{take, drop}
-use Rattle.lines.specs.Lines.{Read, got, bad, Ids, all, broken, Command, openLine, seatLine, outLine, findLine, unknown}
+use Rattle.lines.specs.Lines.{Read, got, bad, Ids, all, broken, next, last, given, mostId, mostKey, withA, Command, openLine, seatLine, outLine, findLine, unknown}
+use Rattle.lines.specs.declared.Word.{Word}
+use Rattle.lines.specs.declared.Word.the-variants as word
+use Rattle.lines.specs.declared.First.{First}
+use Rattle.lines.specs.declared.First.the-variants as first
 use Rattle.lines.specs.declared.Number.{Number}
 use Rattle.lines.specs.declared.Number.the-variants as numbers
 use Rattle.lines.specs.declared.Id.{Id}
@@ -11,6 +15,14 @@ use Rattle.lines.specs.declared.Listed.{Listed}
 use Rattle.lines.specs.declared.Listed.the-variants as lists
 use Rattle.lines.specs.declared.Line.{Line}
 use Rattle.lines.specs.declared.Line.the-variants as line
+
+-- what a line is by its first word, from behind it on
+abbrev pub afterWord : List ℕ → First → Command
+afterWord s (first.Is word.Open c) = withA (next mostId (drop (c .at) s))
+afterWord s (first.Is word.Seat c) = given seatLine (last (next mostId (drop (c .at) s)))
+afterWord s (first.Is word.Out c) = given outLine (last (next mostId (drop (c .at) s)))
+afterWord s (first.Is word.Find c) = given findLine (last (next mostKey (drop (c .at) s)))
+afterWord s first.Bad = unknown
 
 abbrev pub readOf : List ℕ → Number → Read
 readOf s (numbers.Value v c) = got v (drop (c .at) s)

@@ -3,11 +3,25 @@ ghost use mathlib.Core.Path.{_≡_};
 ghost use Prim.Native.Nat.{_+_, _*_, _≤_};
 ghost use lib.ListN.{length, drop};
 ghost use Rattle.lines.specs.Lines.{digits, number, next, last, mostId, idsOf, starts, withA, commandOf};
-ghost use Rattle.lines.specs.Readings.{readOf, idOf, listOf, listCount, lineOf, lineCount};
+ghost use Rattle.lines.specs.Readings.{afterWord, readOf, idOf, listOf, listCount, lineOf, lineCount};
 
 // A place in a line.
 pub struct Cursor {
     pub at: usize,
+}
+
+// The words that a line can begin with.
+enum Word {
+    Open,
+    Seat,
+    Out,
+    Find,
+}
+
+// A word, and the cursor behind it.
+enum First {
+    Is(Word, Cursor),
+    Bad,
 }
 
 // A number, and the cursor behind it.
@@ -63,6 +77,23 @@ fn digits_from(s: &[u8], from: usize, lim: u64) -> Number
         i += 1;
     }
     Number::Value(v, Cursor { at: i })
+}
+
+// Does the line begin with this word?
+fn starts_with(s: &[u8], word: &[u8]) -> bool
+    ensures { λ r. ⌜ r ≡ starts (now (word .entry)) (now (s .entry)) ⌝ }
+{
+    let mut i: usize = 0;
+    while i < word.len() {
+        if s.len() <= i {
+            return false;
+        }
+        if s[i] != word[i] {
+            return false;
+        }
+        i += 1;
+    }
+    true
 }
 
 impl Cursor {
@@ -127,53 +158,58 @@ impl Cursor {
         }
         Listed::All(n)
     }
-}
 
-// Does the line begin with this word?
-fn starts_with(s: &[u8], word: &[u8]) -> bool
-    ensures { λ r. ⌜ r ≡ starts (now (word .entry)) (now (s .entry)) ⌝ }
-{
-    let mut i: usize = 0;
-    while i < word.len() {
-        if s.len() <= i {
-            return false;
+    // The word that begins here.
+    fn word(self, s: &[u8]) -> First
+        requires { ⌜ self .at ≤ length (now s) ⌝ }
+        ensures { λ r. ⌜ afterWord (now (s .entry)) r ≡ commandOf (drop (self .at) (now (s .entry))) ⌝ }
+    {
+        let at = self.at;
+        let l = &s[at..];
+        if starts_with(l, b"open") {
+            return First::Is(Word::Open, Cursor { at: at + 4 });
         }
-        if s[i] != word[i] {
-            return false;
+        if starts_with(l, b"seat") {
+            return First::Is(Word::Seat, Cursor { at: at + 4 });
         }
-        i += 1;
+        if starts_with(l, b"out") {
+            return First::Is(Word::Out, Cursor { at: at + 3 });
+        }
+        if starts_with(l, b"find") {
+            return First::Is(Word::Find, Cursor { at: at + 4 });
+        }
+        First::Bad
     }
-    true
-}
 
-// The number behind a word of so many bytes, with nothing after it.
-fn last_number(s: &[u8], word: usize, lim: u64) -> Number
-    requires { ⌜ 9 ≤ lim ⌝ }
-    ensures { λ r. ⌜ readOf (now (s .entry)) r ≡ last (next lim (drop word (now (s .entry)))) ⌝ }
-{
-    let Number::Value(v, c) = (Cursor { at: word }).next(s, lim) else {
-        return Number::Bad;
-    };
-    if c.at < s.len() {
-        return Number::Bad;
+    // The next number, with nothing after it.
+    fn last_number(self, s: &[u8], lim: u64) -> Number
+        requires { ⌜ 9 ≤ lim ⌝ }
+        ensures { λ r. ⌜ readOf (now (s .entry)) r ≡ last (next lim (drop (self .at) (now (s .entry)))) ⌝ }
+    {
+        let Number::Value(v, c) = self.next(s, lim) else {
+            return Number::Bad;
+        };
+        if c.at < s.len() {
+            return Number::Bad;
+        }
+        Number::Value(v, c)
     }
-    Number::Value(v, c)
+
+    fn last_id(self, s: &[u8]) -> Id
+        ensures { λ r. ⌜ idOf r ≡ last (next mostId (drop (self .at) (now (s .entry)))) ⌝ }
+    {
+        let Number::Value(id, _) = self.last_number(s, 0xffff_ffff) else {
+            return Id::None;
+        };
+        Id::Is(id as u32)
+    }
 }
 
-fn id_line(s: &[u8], word: usize) -> Id
-    ensures { λ r. ⌜ idOf r ≡ last (next mostId (drop word (now (s .entry)))) ⌝ }
-{
-    let Number::Value(id, _) = last_number(s, word, 0xffff_ffff) else {
-        return Id::None;
-    };
-    Id::Is(id as u32)
-}
-
-fn open_line(s: &[u8], into: &mut [u32]) -> Line
+fn open_line(c: Cursor, s: &[u8], into: &mut [u32]) -> Line
     requires { ⌜ length (now s) ≤ 2 * length (now into) ⌝ }
-    ensures { λ r. ⌜ (lineOf (now (into .exit)) r ≡ withA (next mostId (drop 4 (now (s .entry))))) × (lineCount r ≤ length (now (into .exit))) ⌝ }
+    ensures { λ r. ⌜ (lineOf (now (into .exit)) r ≡ withA (next mostId (drop (c .at) (now (s .entry))))) × (lineCount r ≤ length (now (into .exit))) ⌝ }
 {
-    let Number::Value(a, c) = (Cursor { at: 4 }).next(s, 0xffff_ffff) else {
+    let Number::Value(a, c) = c.next(s, 0xffff_ffff) else {
         return Line::Unknown;
     };
     let Listed::All(n) = c.ids(s, into) else {
@@ -187,26 +223,28 @@ pub fn command(s: &[u8], into: &mut [u32]) -> Line
     requires { ⌜ length (now s) ≤ 2 * length (now into) ⌝ }
     ensures { λ r. ⌜ (lineOf (now (into .exit)) r ≡ commandOf (now (s .entry))) × (lineCount r ≤ length (now (into .exit))) ⌝ }
 {
-    if starts_with(s, b"open") {
-        return open_line(s, into);
+    let First::Is(word, c) = (Cursor { at: 0 }).word(s) else {
+        return Line::Unknown;
+    };
+    match word {
+        Word::Open => open_line(c, s, into),
+        Word::Seat => {
+            let Id::Is(id) = c.last_id(s) else {
+                return Line::Unknown;
+            };
+            Line::Seat(id)
+        }
+        Word::Out => {
+            let Id::Is(id) = c.last_id(s) else {
+                return Line::Unknown;
+            };
+            Line::Out(id)
+        }
+        Word::Find => {
+            let Number::Value(key, _) = c.last_number(s, 0xffff_ffff_ffff_ffff) else {
+                return Line::Unknown;
+            };
+            Line::Find(key)
+        }
     }
-    if starts_with(s, b"seat") {
-        let Id::Is(id) = id_line(s, 4) else {
-            return Line::Unknown;
-        };
-        return Line::Seat(id);
-    }
-    if starts_with(s, b"out") {
-        let Id::Is(id) = id_line(s, 3) else {
-            return Line::Unknown;
-        };
-        return Line::Out(id);
-    }
-    if starts_with(s, b"find") {
-        let Number::Value(key, _) = last_number(s, 4, 0xffff_ffff_ffff_ffff) else {
-            return Line::Unknown;
-        };
-        return Line::Find(key);
-    }
-    Line::Unknown
 }

@@ -20,7 +20,7 @@ returns c = (ap withA (sym (ap (readOf (c .before .before .before .before .befor
 -- a, and what is left behind it
 first : (c : tie.After-a) →
     let s = c .before .before .before .before .before in
-    got (c .a .given .0 .0) (drop (c .a .given .0 .1 .0 .at) (s .args .s .now)) ≡ next mostId (drop 4 (s .args .s .now))
+    got (c .a .given .0 .0) (drop (c .a .given .0 .1 .0 .at) (s .args .s .now)) ≡ next mostId (drop (s .args .c .at) (s .args .s .now))
 first c = sym (ap (readOf (c .before .before .before .before .before .args .s .now)) (c .a .given .1)) ∙ c .before .before .next .ensures
 
 -- the ids of what is left

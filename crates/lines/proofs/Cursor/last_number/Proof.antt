@@ -1,4 +1,4 @@
--- `lines::last_number` meets its contract: it reads a number, and looks whether the line goes on.
+-- `lines::Cursor::last_number` meets its contract: it reads a number, and looks whether the line goes on.
 -- Assumes nothing.
 use native.Mathlib.Omega.{arith}
 use borrow.Author.Needs.{needs}
@@ -6,8 +6,8 @@ use mathlib.Core.Path.{sym, ap, _∙_}
 use Rattle.lines.specs.Lines.{last}
 use Rattle.lines.specs.Readings.{readOf}
 use Rattle.lines.proofs.Commands.{last-more, last-end}
-use Rattle.lines.proofs.last_number.Statement.{statement}
-use Rattle.lines.proofs.last_number.Tie as tie
+use Rattle.lines.proofs.Cursor.last_number.Statement.{statement}
+use Rattle.lines.proofs.Cursor.last_number.Tie as tie
 
 returns : tie.Need-returns
 returns c = ap last (sym (ap (readOf (c .before .before .before .before .args .s .now)) (c .enum-told .given .1)) ∙ c .before .before .next .ensures)

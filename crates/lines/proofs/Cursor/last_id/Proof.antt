@@ -1,4 +1,4 @@
--- `lines::id_line` meets its contract: an id is within its limit.
+-- `lines::Cursor::last_id` meets its contract: an id is within its limit.
 -- Assumes nothing.
 use native.Mathlib.Omega.{arith}
 use borrow.Author.Needs.{needs}
@@ -6,8 +6,8 @@ use mathlib.Core.Path.{sym, ap, _∙_}
 use Rattle.lines.specs.Lines.{mostId}
 use Rattle.lines.specs.Readings.{readOf}
 use Rattle.lines.proofs.Commands.{last-most}
-use Rattle.lines.proofs.id_line.Statement.{statement}
-use Rattle.lines.proofs.id_line.Tie as tie
+use Rattle.lines.proofs.Cursor.last_id.Statement.{statement}
+use Rattle.lines.proofs.Cursor.last_id.Tie as tie
 
 returns : tie.Need-returns
 returns c = sym (ap (readOf (c .before .before .before .before .args .s .now)) (c .enum-told .given .1)) ∙ c .before .before .last-number .ensures
@@ -22,5 +22,5 @@ returns-2 c =
     let k = c .before in
     last-most mostId _ _ _ (sym (ap (readOf (c .before .before .before .before .before .args .s .now)) (k .id .given .1)) ∙ k .before .before .last-number .ensures) .1
 
-pub id-line-spec : {M : Type 1} → statement M
-id-line-spec = tie.close (tie.spec (λ c κs. search needs) (λ c. search needs) (λ c. search needs) returns cast-t5 returns-2)
+pub last-id-spec : {M : Type 1} → statement M
+last-id-spec = tie.close (tie.spec (λ c κs. search needs) (λ c. search needs) (λ c. search needs) returns cast-t5 returns-2)
