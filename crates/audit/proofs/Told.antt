@@ -12,16 +12,12 @@ use Rattle.rules.specs.declared.Refusal.{Refusal}
 use Rattle.rules.specs.declared.Refusal.the-variants.{Size, Damaged}
 use Rattle.rules.proofs.Numbers.{numberOf-positive}
 use Rattle.sound.proofs.Sound.{sound?}
-use Rattle.audit.specs.Decides.{decided}
+use Rattle.rules.proofs.Decided.{true-yes}
 use Rattle.audit.specs.Audit.{isSound, auditCall}
 
 -- no refusal is fine
 not-fine : {P : Type 0} (r : Refusal) (vs : List ℕ) → refused r ≡ fine vs → P
 not-fine r vs e = absurd (omega (arith, numberOf-positive r, ap (λ (x : Answer). x .number) e))
-
-true-yes : {P : Type 0} (d : Dec P) → decided d ≡ true → P
-true-yes (yes p) e = p
-true-yes (no n) e = let z : _≡_ {A = ℕ} 0 1 = cc in absurd (omega arith)
 
 module _ (w : List ℕ) where
   abbrev first : Bool → Bool → Answer

@@ -59,6 +59,22 @@ unfolding after
 after-is a rs zero t = record { seats = refl; used = omega arith; kept = kept-full a (omega arith); left = λ i h. absurd (omega arith) }
 after-is a rs (suc k) t = next t (after-is a rs k (fewer-still t (omega arith)))
 
+-- seats that leave one after the other, each in use when it leaves, are distinct
+pub takeable-each : (a : ℕ) (rs : List ℕ) (k : ℕ) → 1 ≤ a → ((i : ℕ) → i < k → Leaves (after a rs i) (rs ! i)) → Takeable a rs k
+takeable-each a rs zero some each = record { fewer = omega arith; below = λ i h. absurd (omega arith); apart = λ i j h l. absurd (omega arith) }
+takeable-each a rs (suc k) some each =
+    let t = takeable-each a rs k some (λ i h. each i (omega arith)) in
+    let d = after-is a rs k t in
+    let v = each k (omega arith) in
+    record {
+      fewer = omega arith;
+      below = λ i h. elim (ℕ-discrete i k) [ yes e ↦ rw e (omega arith) | no ne ↦ t .below i (omega arith) ];
+      apart = λ i j h l. elim (ℕ-discrete j k) [
+        | yes e ↦ rw e (λ q. omega (arith, ap (λ (x : ℕ). after a rs k .A ! x) (d .left i (omega arith) ∙ q), d .kept .order .taken i (omega arith) .1))
+        | no ne ↦ t .apart i j h (omega arith)
+      ];
+    }
+
 -- only the first k of rs matter
 pub after-first : (a : ℕ) (rs ss : List ℕ) (k : ℕ) → ((i : ℕ) → i < k → rs ! i ≡ ss ! i) → after a rs k ≡ after a ss k
 unfolding after

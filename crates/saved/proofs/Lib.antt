@@ -1,0 +1,9 @@
+pub mod Fields
+pub mod Each
+pub mod Ranks
+pub mod Holds
+pub mod Length
+pub mod Worked
+pub mod Back
+pub mod OneRecord
+pub mod Exact

@@ -1,0 +1,51 @@
+-- The test of bytes that load makes, told for each field. Nobody has to believe this: proofs/ shows that exactly the records pass it.
+use mathlib.Core.Path.{_≡_}
+use mathlib.Core.List.{List}
+use mathlib.Core.Logic.{_≢_}
+use Prim.Native.Nat.{ℕ, _+_, _*_, _-_, _<_, _≤_}
+use lib.ListN.{length}
+use Rattle.rules.specs.Table.{_!_, Bare, mostSeats}
+use Rattle.sound.specs.Kept.{Leaves}
+use Rattle.saved.specs.Record.{headMark, outMark, inMark, field}
+use Rattle.saved.specs.Reader.{numberAt, Stands, rank, outAt, inAt, seatsIn, usedIn, goneIn, leftAt, serverAt, bareFrom}
+
+-- a head of a seats with n in use, and bytes for its records
+pub record HeadFits (s : List ℕ) (a n : ℕ) : Type 0 where
+  pub mark : Stands s 0 headMark
+  pub isA : seatsIn s ≡ a
+  pub isN : usedIn s ≡ n
+  pub some : 1 ≤ n
+  pub fit : n ≤ a
+  pub most : a ≤ mostSeats
+  pub long : length s ≡ 6 + 4 * (a - n) + 8 * n
+
+-- the record of removal i of m: its seat is in use when it leaves
+pub record OutFits (s : List ℕ) (a m i : ℕ) : Type 0 where
+  pub mark : Stands s (outAt i) outMark
+  pub leaves : Leaves (bareFrom s a m i) (leftAt s i)
+
+-- the record of seat b, if it is in use after m removals that left A
+pub record InFits (s : List ℕ) (m : ℕ) (A : List ℕ) (b : ℕ) : Type 0 where
+  pub mark : Stands s (inAt m (rank A b)) inMark
+  pub own : numberAt s (inAt m (rank A b) + 2) field ≡ b
+  pub some : serverAt s m (rank A b) ≢ 0
+
+abbrev pub AllOut : List ℕ → ℕ → ℕ → ℕ → Type 0
+AllOut s a m n = (i : ℕ) → i < n → OutFits s a m i
+
+abbrev pub AllIn : List ℕ → ℕ → List ℕ → ℕ → Type 0
+AllIn s m A n = (b : ℕ) → b < n → A ! b ≡ 0 → InFits s m A b
+
+-- no two of the first n servers are the same
+abbrev pub Differ : List ℕ → ℕ → ℕ → Type 0
+Differ s m n = (i j : ℕ) → i < j → j < n → serverAt s m i ≢ serverAt s m j
+
+-- after the head
+pub record BodyFits (s : List ℕ) (a n : ℕ) : Type 0 where
+  pub outs : AllOut s a (a - n) (a - n)
+  pub ins : AllIn s (a - n) (bareFrom s a (a - n) (a - n) .A) a
+  pub apart : Differ s (a - n) n
+
+pub record Fits (s : List ℕ) : Type 0 where
+  pub head : HeadFits s (seatsIn s) (usedIn s)
+  pub body : BodyFits s (seatsIn s) (usedIn s)
