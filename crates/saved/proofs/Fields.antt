@@ -9,7 +9,7 @@ use native.Mathlib.Omega.{arith}
 use native.Mathlib.Numerals.{add-one}
 use native.Mathlib.Nat.{pow-suc}
 use lib.ListN.{length, take, drop, getD, length-append, length-drop, length-take}
-use lib.Seq.{take-suc, take-take, take-add, take-append-seam, drop-append-seam, drop-drop, take-at, getD-at, getD-take, getD-drop, take-length, take-all}
+use lib.Seq.{take-suc, take-take, take-add, take-append-seam, drop-append-seam, drop-drop, take-at, getD-at, getD-take, getD-drop, take-length, length-take-le, ext-getD}
 use Rattle.rules.specs.Table.{_!_}
 use Rattle.saved.specs.Record.{bytes}
 use Rattle.saved.specs.Reader.{numberAt, Stands}
@@ -40,6 +40,15 @@ stands-self s = take-length s
 
 pub stands-whole : (s x : List ℕ) → length s ≡ length x → Stands s 0 x → x ≡ s
 stands-whole s x e h = sym h ∙ ap (λ (n : ℕ). take n s) (sym e) ∙ take-length s
+
+-- byte by byte
+pub stands-byte : (s : List ℕ) (at : ℕ) (x : List ℕ) (i : ℕ) → i < length x → Stands s at x → s ! (at + i) ≡ x ! i
+stands-byte s at x i l h = sym (getD-take (length x) (drop at s) i 0 l ∙ getD-drop at s i 0) ∙ ap (λ (y : List ℕ). y ! i) h
+
+pub stands-bytes : (s : List ℕ) (at : ℕ) (x : List ℕ) → at + length x ≤ length s → ((i : ℕ) → i < length x → s ! (at + i) ≡ x ! i) → Stands s at x
+stands-bytes s at x l h =
+    let long : length (take (length x) (drop at s)) ≡ length x = length-take-le (length x) (drop at s) (simp length-drop (omega arith)) in
+    ext-getD 0 _ x long (λ i k. getD-take (length x) (drop at s) i 0 (omega arith) ∙ getD-drop at s i 0 ∙ h i (omega arith))
 
 pub length-bytes : (width x : ℕ) → length (bytes width x) ≡ width
 length-bytes zero x = refl

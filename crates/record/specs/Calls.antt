@@ -1,0 +1,31 @@
+-- Document 01, 'Numbers a call can answer': saving and loading. Each gives the answer and the lent bytes or words after it, on all inputs.
+use mathlib.Core.Bool.{not}
+use mathlib.Core.List.{List, [], _∷_, _++_}
+use Prim.Native.Nat.{ℕ}
+use lib.ListN.{length, drop}
+use lib.Dec.{ltb, eqb}
+use Rattle.rules.specs.Table.{words, runLength, tableOf, legal}
+use Rattle.rules.specs.Answers.{Answer, fine, refused, Outcome, refusedAt, done, _⇒_, firstThat}
+use Rattle.rules.specs.declared.Refusal.the-variants.{Size, Damaged, Room, Form}
+use Rattle.audit.specs.Audit.{isSound}
+use Rattle.saved.specs.Record.{recordOf, IsRecord}
+use Rattle.saved.proofs.Back.{record?}
+use Rattle.record.specs.declared.Saved.{Saved}
+use Rattle.record.specs.declared.Saved.the-variants as saved
+
+-- the number and the values of each answer
+abbrev pub savedAnswer : Saved → Answer
+savedAnswer (saved.Bytes n) = fine (n ∷ [])
+savedAnswer (saved.Refused r) = refused r
+
+-- Saving the run w into the bytes out: only the record's bytes are written
+unfoldable pub saveCall : List ℕ → List ℕ → Outcome
+saveCall w out =
+    let s = recordOf (tableOf w) in
+    firstThat (
+    not (legal w) ⇒ Size
+    ∷ not (isSound w) ⇒ Damaged
+    ∷ ltb (length out) (length s) ⇒ Room
+    ∷ []
+    ) (refusedAt out)
+    (done (length s ∷ []) (s ++ drop (length s) out))

@@ -1,0 +1,123 @@
+// Saving a table as a record of bytes, and loading it.
+ghost use mathlib.Core.Path.{_≡_};
+ghost use Prim.Native.Nat.{_+_, _*_, _<_, _≤_};
+ghost use lib.ListN.{length};
+ghost use lib.Seq.{sets};
+ghost use Rattle.rules.specs.Table.{tableFor};
+ghost use Rattle.rules.specs.History.{Sound};
+ghost use Rattle.parts.specs.Shape.{Shape};
+ghost use Rattle.changes.specs.Calls.{outcome};
+ghost use Rattle.saved.specs.Record.{field, headRecord, outRecord, inRecord, each, seatRecord, removalRecord};
+ghost use Rattle.record.specs.Calls.{savedAnswer, saveCall};
+use audit::Audited;
+use audit::audit_table;
+use fields::put_mark;
+use fields::put_number;
+use parts::get_a;
+use parts::get_r;
+use parts::get_s;
+use rules::Refusal;
+use rules::Seat;
+
+// The bytes of a, of N and of a seat; and of a server.
+const FIELD: usize = 2;
+
+const SERVER: usize = 4;
+
+// The bytes written, or why none were.
+pub enum Saved {
+    Bytes(usize),
+    Refused(Refusal),
+}
+
+fn put_head(out: &mut [u8], a: u32, n: u32)
+    requires { ⌜ 6 ≤ length (now out) ⌝ }
+    ensures { λ _. ⌜ now (out .exit) ≡ sets (now (out .entry)) 0 (headRecord field a n) ⌝ }
+{
+    put_mark(out, 0, b"AS");
+    put_number(out, 2, FIELD, a);
+    put_number(out, 4, FIELD, n);
+}
+
+fn put_out(out: &mut [u8], at: usize, b: Seat)
+    requires { ⌜ at + 4 ≤ length (now out) ⌝ }
+    ensures { λ _. ⌜ now (out .exit) ≡ sets (now (out .entry)) at (outRecord field (b .0)) ⌝ }
+{
+    put_mark(out, at, b"OU");
+    put_number(out, at + 2, FIELD, b.0);
+}
+
+fn put_in(out: &mut [u8], at: usize, b: Seat, id: u32)
+    requires { ⌜ at + 8 ≤ length (now out) ⌝ }
+    ensures { λ _. ⌜ now (out .exit) ≡ sets (now (out .entry)) at (inRecord field (b .0) id) ⌝ }
+{
+    put_mark(out, at, b"IN");
+    put_number(out, at + 2, FIELD, b.0);
+    put_number(out, at + 4, SERVER, id);
+}
+
+// The first m entries of R, oldest first.
+fn put_outs(out: &mut [u8], t: &[u32], a: usize, m: usize)
+    requires { ⌜ (Shape (now t) a) × (m ≤ a) × (6 + 4 * m ≤ length (now out)) ⌝ }
+    ensures { λ _. ⌜ now (out .exit) ≡ sets (now (out .entry)) 6 (each (removalRecord (tableFor a (now (t .entry)))) m) ⌝ }
+{
+    let mut i: usize = 0;
+    while i < m {
+        put_out(out, 6 + 4 * i, get_r(t, a, i));
+        i += 1;
+    }
+}
+
+// Seat b, if it is in use. Answers where the next record goes.
+fn put_seat(out: &mut [u8], at: usize, t: &[u32], a: usize, b: Seat) -> usize
+    requires { ⌜ (Shape (now t) a) × (b .0 < a) × (at + length (seatRecord (tableFor a (now t)) (b .0)) ≤ length (now out)) ⌝ }
+    ensures next { λ r. ⌜ r ≡ at + length (seatRecord (tableFor a (now (t .entry))) (b .0)) ⌝ }
+    ensures bytes { λ r. ⌜ now (out .exit) ≡ sets (now (out .entry)) at (seatRecord (tableFor a (now (t .entry))) (b .0)) ⌝ }
+{
+    if get_a(t, a, b) != 0 {
+        return at;
+    }
+    put_in(out, at, b, get_s(t, a, b));
+    at + 8
+}
+
+// The seats in use, ascending.
+fn put_ins(out: &mut [u8], at: usize, t: &[u32], a: usize)
+    requires { ⌜ (Shape (now t) a) × (at + length (each (seatRecord (tableFor a (now t))) a) ≤ length (now out)) ⌝ }
+    ensures { λ _. ⌜ now (out .exit) ≡ sets (now (out .entry)) at (each (seatRecord (tableFor a (now (t .entry)))) a) ⌝ }
+{
+    let mut next = at;
+    let mut b: usize = 0;
+    while b < a {
+        next = put_seat(out, next, t, a, Seat(b as u32));
+        b += 1;
+    }
+}
+
+// Saving a sound table.
+fn save_sound(t: &[u32], out: &mut [u8]) -> Saved
+    requires { ⌜ Sound (now t) ⌝ }
+    ensures { λ r. ⌜ outcome (savedAnswer r) (now (out .exit)) ≡ saveCall (now (t .entry)) (now (out .entry)) ⌝ }
+{
+    let a = t[0] as usize;
+    let n = t[1] as usize;
+    let ins = 6 + 4 * (a - n);
+    let len = ins + 8 * n;
+    if out.len() < len {
+        return Saved::Refused(Refusal::Room);
+    }
+    put_head(out, t[0], t[1]);
+    put_outs(out, t, a, a - n);
+    put_ins(out, ins, t, a);
+    Saved::Bytes(len)
+}
+
+// Saving a table as a record, in the first bytes of the output.
+pub fn save(t: &[u32], out: &mut [u8]) -> Saved
+    ensures { λ r. ⌜ outcome (savedAnswer r) (now (out .exit)) ≡ saveCall (now (t .entry)) (now (out .entry)) ⌝ }
+{
+    let Audited::Refused(why) = audit_table(t) else {
+        return save_sound(t, out);
+    };
+    Saved::Refused(why)
+}
