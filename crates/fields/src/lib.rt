@@ -7,6 +7,18 @@ ghost use Rattle.rules.specs.Decides.{Decides};
 ghost use Rattle.saved.specs.Record.{bytes};
 ghost use Rattle.saved.specs.Reader.{numberAt, Stands};
 
+// The bytes of a, of N and of a seat; and of a server.
+pub const FIELD: usize = 2;
+
+pub const SERVER: usize = 4;
+
+// The marks 41 53, 4F 55 and 49 4E.
+pub const HEAD_MARK: [u8; 2] = *b"AS";
+
+pub const OUT_MARK: [u8; 2] = *b"OU";
+
+pub const IN_MARK: [u8; 2] = *b"IN";
+
 pub fn put_mark(out: &mut [u8], at: usize, mark: &[u8; 2])
     requires { ⌜ (at + 2 ≤ length (now out)) × (length (now mark) ≡ 2) ⌝ }
     ensures { λ _. ⌜ now (out .exit) ≡ sets (now (out .entry)) at (now (mark .entry)) ⌝ }

@@ -11,6 +11,11 @@ ghost use Rattle.saved.specs.Record.{field, headRecord, outRecord, inRecord, ea
 ghost use Rattle.record.specs.Calls.{savedAnswer, saveCall};
 use audit::Audited;
 use audit::audit_table;
+use fields::FIELD;
+use fields::HEAD_MARK;
+use fields::IN_MARK;
+use fields::OUT_MARK;
+use fields::SERVER;
 use fields::put_mark;
 use fields::put_number;
 use parts::get_a;
@@ -18,11 +23,6 @@ use parts::get_r;
 use parts::get_s;
 use rules::Refusal;
 use rules::Seat;
-
-// The bytes of a, of N and of a seat; and of a server.
-const FIELD: usize = 2;
-
-const SERVER: usize = 4;
 
 // The bytes written, or why none were.
 pub enum Saved {
@@ -34,7 +34,7 @@ fn put_head(out: &mut [u8], a: u32, n: u32)
     requires { ⌜ 6 ≤ length (now out) ⌝ }
     ensures { λ _. ⌜ now (out .exit) ≡ sets (now (out .entry)) 0 (headRecord field a n) ⌝ }
 {
-    put_mark(out, 0, b"AS");
+    put_mark(out, 0, &HEAD_MARK);
     put_number(out, 2, FIELD, a);
     put_number(out, 4, FIELD, n);
 }
@@ -43,7 +43,7 @@ fn put_out(out: &mut [u8], at: usize, b: Seat)
     requires { ⌜ at + 4 ≤ length (now out) ⌝ }
     ensures { λ _. ⌜ now (out .exit) ≡ sets (now (out .entry)) at (outRecord field (b .0)) ⌝ }
 {
-    put_mark(out, at, b"OU");
+    put_mark(out, at, &OUT_MARK);
     put_number(out, at + 2, FIELD, b.0);
 }
 
@@ -51,7 +51,7 @@ fn put_in(out: &mut [u8], at: usize, b: Seat, id: u32)
     requires { ⌜ at + 8 ≤ length (now out) ⌝ }
     ensures { λ _. ⌜ now (out .exit) ≡ sets (now (out .entry)) at (inRecord field (b .0) id) ⌝ }
 {
-    put_mark(out, at, b"IN");
+    put_mark(out, at, &IN_MARK);
     put_number(out, at + 2, FIELD, b.0);
     put_number(out, at + 4, SERVER, id);
 }

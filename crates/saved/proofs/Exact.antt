@@ -21,7 +21,7 @@ use Rattle.sound.proofs.Audit.{R-takeable}
 use Rattle.sound.proofs.Reached.{Passes, passes, reached}
 use Rattle.saved.specs.Record.{bytes, headMark, outMark, inMark, field, headRecord, outRecord, inRecord, each, removalRecord, seatRecord, recordOf, IsRecord}
 use Rattle.saved.specs.Reader.{numberAt, Stands, listed, rank, outAt, inAt, seatsIn, usedIn, goneIn, leftAt, serverAt, serverOf, bareFrom, tableFrom}
-use Rattle.saved.specs.Fits.{HeadFits, OutFits, InFits, AllOut, AllIn, Differ, BodyFits, Fits}
+use Rattle.saved.specs.Fits.{HeadFits, OutFits, InFits, AllOut, AllIn, AllNew, BodyFits, Fits}
 use Rattle.saved.proofs.Fields.{stands-both, stands-whole, bytes-number, number-below}
 use Rattle.saved.proofs.Each.{stands-each, length-listed, listed-at}
 use Rattle.saved.proofs.Ranks.{rank-below, rank-injective, rank-onto, rank-after, rank-all, length-seats}
@@ -62,8 +62,8 @@ module _ (T : Table) (p : Passes T) (s : List ℕ) (is : recordOf T ≡ s) where
         some = λ e. p .ids .some b h z .0 (sym (server-is T p s is b h z) ∙ e);
       })
 
-  record-apart : Differ s m (T .bare .used)
-  record-apart i j h l e =
+  record-apart : AllNew s m (T .bare .used)
+  record-apart j l i h e =
       let all = rank-all (T .bare) (p .test) in
       let (x, hx, zx, ex) = rank-onto (T .bare .A) a i (omega arith) in
       let (y, hy, zy, ey) = rank-onto (T .bare .A) a j (omega arith) in
@@ -84,6 +84,18 @@ module _ (T : Table) (p : Passes T) (s : List ℕ) (is : recordOf T ≡ s) where
         body = subst (λ (x : ℕ). BodyFits s x (usedIn s)) (sym e) (subst (λ (y : ℕ). BodyFits s a y) (sym f) record-body);
       }
 
+-- removals that fit make a table, in which all other seats are in use
+module _ (s : List ℕ) (a m : ℕ) (some : 1 ≤ a) (outs : AllOut s a m m) where
+  pub outs-takeable : Takeable a (listed (leftAt s) m) m
+  unfolding bareFrom
+  outs-takeable =
+      takeable-each a (listed (leftAt s) m) m some
+      (λ i h. subst (λ (x : ℕ). Leaves (after a (listed (leftAt s) m) i) x) (sym (listed-at (leftAt s) m i h)) (outs i h .leaves))
+
+  pub outs-rank : rank (bareFrom s a m m .A) a ≡ a - m
+  unfolding bareFrom
+  outs-rank = rank-after a (listed (leftAt s) m) m outs-takeable
+
 module _ (s : List ℕ) (byte : (i : ℕ) → s ! i < 256) where
   -- bytes whose every field is that of T are its record
   module _ (T : Table) (p : Passes T) (head : HeadFits s (T .bare .seats) (T .bare .used)) where
@@ -91,7 +103,7 @@ module _ (s : List ℕ) (byte : (i : ℕ) → s ! i < 256) where
     gone = T .bare .seats - T .bare .used
 
     whole : ((i : ℕ) → i < gone → Stands s (outAt i) outMark × (leftAt s i ≡ T .bare .R ! i))
-        → ((b : ℕ) → b < T .bare .seats → T .bare .A ! b ≡ 0 → InFits s gone (T .bare .A) b × (serverAt s gone (rank (T .bare .A) b) ≡ T .S ! b))
+        → ((b : ℕ) → b < T .bare .seats → T .bare .A ! b ≡ 0 → InFits s (inAt gone (rank (T .bare .A) b)) b × (serverAt s gone (rank (T .bare .A) b) ≡ T .S ! b))
         → recordOf T ≡ s
     unfolding recordOf
     whole outs ins =
@@ -142,10 +154,7 @@ module _ (s : List ℕ) (byte : (i : ℕ) → s ! i < 256) where
     rs = listed (leftAt s) left
 
     takeable : Takeable seats rs left
-    unfolding bareFrom
-    takeable =
-        takeable-each seats rs left (omega (arith, f .head))
-        (λ i h. subst (λ (x : ℕ). Leaves (after seats rs i) x) (sym (listed-at (leftAt s) left i h)) (f .body .outs i h .leaves))
+    takeable = outs-takeable s seats left (omega (arith, f .head)) (f .body .outs)
 
     made : After seats rs left F
     unfolding bareFrom
@@ -155,8 +164,7 @@ module _ (s : List ℕ) (byte : (i : ℕ) → s ! i < 256) where
     used = made .used ∙ omega (arith, f .head)
 
     ranks : rank (F .A) seats ≡ usedIn s
-    unfolding bareFrom
-    ranks = rank-after seats rs left takeable ∙ omega (arith, f .head)
+    ranks = outs-rank s seats left (omega (arith, f .head)) (f .body .outs) ∙ omega (arith, f .head)
 
     abbrev servers : List ℕ
     servers = listed (serverOf s left (F .A)) seats
@@ -180,9 +188,9 @@ module _ (s : List ℕ) (byte : (i : ℕ) → s ! i < 256) where
         let below-x = rank-below (F .A) seats x hx zx in
         let below-y = rank-below (F .A) seats y hy zy in
         elim (decLt i j) [
-          | yes l ↦ absurd (f .body .apart i j l (omega (arith, ranks)) same)
+          | yes l ↦ absurd (f .body .apart j (omega (arith, ranks)) i l same)
           | no l ↦ elim (decLt j i) [
-            | yes k ↦ absurd (f .body .apart j i k (omega (arith, ranks)) (sym same))
+            | yes k ↦ absurd (f .body .apart i (omega (arith, ranks)) j k (sym same))
             | no k ↦ rank-injective (F .A) x y zx zy (omega arith)
           ]
         ]
@@ -219,7 +227,7 @@ module _ (s : List ℕ) (byte : (i : ℕ) → s ! i < 256) where
               (λ i h. let l : i < left = omega arith in (f .body .outs i l .mark, sym (made .left i l ∙ listed-at (leftAt s) left i l)))
               (λ b h z.
               let l : b < seats = omega (arith, made .seats) in
-              subst (λ (k : ℕ). InFits s k (F .A) b × (serverAt s k (rank (F .A) b) ≡ servers ! b)) (sym gone-is) (f .body .ins b l z, sym (server-in b l z)));
+              subst (λ (k : ℕ). InFits s (inAt k (rank (F .A) b)) b × (serverAt s k (rank (F .A) b) ≡ servers ! b)) (sym gone-is) (f .body .ins b l z, sym (server-in b l z)));
         }
 
   pub exact : Fits s ↔ IsRecord s

@@ -24,27 +24,31 @@ pub record OutFits (s : List ℕ) (a m i : ℕ) : Type 0 where
   pub mark : Stands s (outAt i) outMark
   pub leaves : Leaves (bareFrom s a m i) (leftAt s i)
 
--- the record of seat b, if it is in use after m removals that left A
-pub record InFits (s : List ℕ) (m : ℕ) (A : List ℕ) (b : ℕ) : Type 0 where
-  pub mark : Stands s (inAt m (rank A b)) inMark
-  pub own : numberAt s (inAt m (rank A b) + 2) field ≡ b
-  pub some : serverAt s m (rank A b) ≢ 0
+-- a record of seat b stands at `at`
+pub record InFits (s : List ℕ) (at b : ℕ) : Type 0 where
+  pub mark : Stands s at inMark
+  pub own : numberAt s (at + 2) field ≡ b
+  pub some : numberAt s (at + 4) 4 ≢ 0
 
 abbrev pub AllOut : List ℕ → ℕ → ℕ → ℕ → Type 0
 AllOut s a m n = (i : ℕ) → i < n → OutFits s a m i
 
+-- of each seat below n that is in use after the m removals that left A
 abbrev pub AllIn : List ℕ → ℕ → List ℕ → ℕ → Type 0
-AllIn s m A n = (b : ℕ) → b < n → A ! b ≡ 0 → InFits s m A b
+AllIn s m A n = (b : ℕ) → b < n → A ! b ≡ 0 → InFits s (inAt m (rank A b)) b
 
--- no two of the first n servers are the same
-abbrev pub Differ : List ℕ → ℕ → ℕ → Type 0
-Differ s m n = (i j : ℕ) → i < j → j < n → serverAt s m i ≢ serverAt s m j
+-- the j-th server is none of those before it
+abbrev pub New : List ℕ → ℕ → ℕ → Type 0
+New s m j = (i : ℕ) → i < j → serverAt s m i ≢ serverAt s m j
+
+abbrev pub AllNew : List ℕ → ℕ → ℕ → Type 0
+AllNew s m n = (j : ℕ) → j < n → New s m j
 
 -- after the head
 pub record BodyFits (s : List ℕ) (a n : ℕ) : Type 0 where
   pub outs : AllOut s a (a - n) (a - n)
   pub ins : AllIn s (a - n) (bareFrom s a (a - n) (a - n) .A) a
-  pub apart : Differ s (a - n) n
+  pub apart : AllNew s (a - n) n
 
 pub record Fits (s : List ℕ) : Type 0 where
   pub head : HeadFits s (seatsIn s) (usedIn s)

@@ -7,7 +7,7 @@ use Prim.Native.Nat.{ℕ, zero, suc, _+_, _-_, _<_, _≤_}
 use native.Mathlib.Omega.{arith}
 use native.Mathlib.Decide.{ℕ-discrete, decLt}
 use native.Mathlib.Numerals.{add-one}
-use lib.ListN.{length, set, replicate, length-append, length-replicate, List·getD-append}
+use lib.ListN.{length, set, replicate, length-append, length-replicate, length-set, List·getD-append}
 use lib.Seq.{ext-getD, getD-set-same}
 use Rattle.rules.specs.Table.{_!_, Bare}
 use Rattle.rules.specs.Changes.{out, seat}
@@ -26,6 +26,14 @@ pub record After (a : ℕ) (rs : List ℕ) (k : ℕ) (T : Bare) : Type 0 where
 
 pub fewer-still : {a : ℕ} {rs : List ℕ} {k j : ℕ} → Takeable a rs k → j ≤ k → Takeable a rs j
 fewer-still t h = record { fewer = omega arith; below = λ i l. t .below i (omega arith); apart = λ i j l m. t .apart i j l (omega arith) }
+
+-- whatever rs has, each of them is one seat less in use
+pub after-counts : (a : ℕ) (rs : List ℕ) (k : ℕ) → (after a rs k .seats ≡ a) × (after a rs k .used ≡ a - k) × (length (after a rs k .A) ≡ a)
+unfolding after
+after-counts a rs zero = (refl, omega arith, length-replicate a 0)
+after-counts a rs (suc k) =
+    let d = after-counts a rs k in
+    (d .0, omega (arith, d .1), length-set (after a rs k .A) (rs ! k) (after a rs k .used - 1) ∙ d .2)
 
 -- the next of rs is in use
 module _ {a : ℕ} {rs : List ℕ} {k : ℕ} {T : Bare} (t : Takeable a rs (suc k)) (d : After a rs k T) where
