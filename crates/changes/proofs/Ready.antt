@@ -47,12 +47,13 @@ can-seat T t room =
     let low = last-below T (lastOut T) c b in
     record { room = room; seat = b; last = low; place = place-below T (lastOut T) c room (t .shape .lenL) low }
 
-pub can-take : (T : Table) (b : ℕ) → Passes T → Kept (T .bare) → b < T .bare .seats → T .S ! b ≢ 0 → CanTake (T .bare) b
-can-take T b p k below named =
-    let s = k .seated b below (named-in-use p below named) in
+-- a seat in use stands in the line
+pub can-leave : {T : Bare} {b : ℕ} → Kept T → b < T .seats → T .A ! b ≡ 0 → CanTake T b
+can-leave {T} {b} k below in-use =
+    let s = k .seated b below in-use in
     let some = k .shape .some in
     let most = k .shape .most in
-    record { seat = below; some = some; most = most; place = omega arith; last = k .line (T .bare .used - 1) (omega arith) .0 }
+    record { seat = below; some = some; most = most; place = omega arith; last = k .line (T .used - 1) (omega arith) .0 }
 
 module _ (w : List ℕ) (s : Sound w) where
   pub long : 1 < length w
@@ -71,4 +72,5 @@ module _ (w : List ℕ) (s : Sound w) where
       let r = sound-table s in
       let p = passes r in
       let at = placed id (tableOf w .S) o in
-      can-take (tableOf w) _ p (reached-kept r) (omega (arith, at .0, p .ids .size)) (λ z. ne (sym (at .1) ∙ z))
+      let below : placeOf id (tableOf w .S) < w ! 0 = omega (arith, at .0, p .ids .size) in
+      can-leave (reached-kept r) below (named-in-use p below (λ z. ne (sym (at .1) ∙ z)))

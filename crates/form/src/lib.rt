@@ -126,7 +126,7 @@ fn ins_fit(s: &[u8], a: usize, m: usize, gone: &[u8]) -> bool
 }
 
 // The j-th server, after m removals.
-fn server_at(s: &[u8], m: usize, j: usize) -> u32
+pub fn server_at(s: &[u8], m: usize, j: usize) -> u32
     requires { ⌜ inAt m (j + 1) ≤ length (now s) ⌝ }
     ensures { λ r. ⌜ r ≡ serverAt (now (s .entry)) m j ⌝ }
 {

@@ -1,2 +1,4 @@
 pub mod Putting
 pub mod Saves
+pub mod Built
+pub mod Loads

@@ -1,32 +1,47 @@
 // Saving a table as a record of bytes, and loading it.
 ghost use mathlib.Core.Path.{_≡_};
-ghost use Prim.Native.Nat.{_+_, _*_, _<_, _≤_};
-ghost use lib.ListN.{length};
+ghost use Prim.Native.Nat.{_+_, _*_, _-_, _<_, _≤_};
+ghost use lib.ListN.{length, set};
 ghost use lib.Seq.{sets};
-ghost use Rattle.rules.specs.Table.{tableFor};
+ghost use Rattle.rules.specs.Table.{words, tableFor, base};
 ghost use Rattle.rules.specs.History.{Sound};
 ghost use Rattle.parts.specs.Shape.{Shape};
 ghost use Rattle.changes.specs.Calls.{outcome};
+ghost use Rattle.saved.specs.Reader.{rank, inAt, serverOf, bareFrom, tableFrom};
 ghost use Rattle.saved.specs.Record.{field, headRecord, outRecord, inRecord, each, seatRecord, removalRecord};
-ghost use Rattle.record.specs.Calls.{savedAnswer, saveCall};
+ghost use Rattle.record.specs.Building.{Laid, Good};
+ghost use Rattle.record.specs.Calls.{savedAnswer, saveCall, loadedAnswer, loadCall};
 use audit::Audited;
 use audit::audit_table;
+use changes::take_out_seat;
 use fields::FIELD;
 use fields::HEAD_MARK;
 use fields::IN_MARK;
 use fields::OUT_MARK;
 use fields::SERVER;
+use fields::number_at;
 use fields::put_mark;
 use fields::put_number;
+use form::Form;
+use form::form_of;
+use form::server_at;
+use layout::lay_bare;
 use parts::get_a;
 use parts::get_r;
 use parts::get_s;
+use parts::set_s;
 use rules::Refusal;
 use rules::Seat;
 
 // The bytes written, or why none were.
 pub enum Saved {
     Bytes(usize),
+    Refused(Refusal),
+}
+
+// The seats in use after a load, or why it is refused.
+pub enum Loaded {
+    Seats(u32),
     Refused(Refusal),
 }
 
@@ -120,4 +135,70 @@ pub fn save(t: &[u32], out: &mut [u8]) -> Saved
         return save_sound(t, out);
     };
     Saved::Refused(why)
+}
+
+// Takes the seats of the m removals out, in order.
+fn take_all(t: &mut [u32], s: &[u8], a: usize, n: usize)
+    requires { ⌜ (Good (now s) a n) × (Laid (now s) (now t) a (a - n) 0) ⌝ }
+    ensures { λ _. ⌜ Laid (now (s .entry)) (now (t .exit)) a (a - n) (a - n) ⌝ }
+{
+    let m = a - n;
+    let mut i: usize = 0;
+    while i < m {
+        let b = Seat(number_at(s, 6 + 4 * i + 2, FIELD));
+        take_out_seat(t, a, b);
+        i += 1;
+    }
+}
+
+// The server of seat b, the j-th in use, or none. Answers the seats in use up to b.
+fn put_server(t: &mut [u32], s: &[u8], a: usize, m: usize, b: Seat, j: usize) -> usize
+    requires { ⌜ (Shape (now t) a) × (b .0 < a) × (j ≡ rank (tableFor a (now t) .bare .A) (b .0)) × (inAt m (rank (tableFor a (now t) .bare .A) (b .0 + 1)) ≤ length (now s)) ⌝ }
+    ensures next { λ r. ⌜ r ≡ rank (tableFor a (now (t .entry)) .bare .A) (b .0 + 1) ⌝ }
+    ensures run { λ r. ⌜ now (t .exit) ≡ set (now (t .entry)) (base a 5 + b .0) (serverOf (now (s .entry)) m (tableFor a (now (t .entry)) .bare .A) (b .0)) ⌝ }
+{
+    if get_a(t, a, b) != 0 {
+        set_s(t, a, b, 0);
+        return j;
+    }
+    set_s(t, a, b, server_at(s, m, j));
+    j + 1
+}
+
+// The part S.
+fn put_servers(t: &mut [u32], s: &[u8], a: usize, n: usize)
+    requires { ⌜ (Good (now s) a n) × (Laid (now s) (now t) a (a - n) (a - n)) ⌝ }
+    ensures { λ _. ⌜ now (t .exit) ≡ words (tableFrom (now (s .entry))) ⌝ }
+{
+    let m = a - n;
+    let mut j: usize = 0;
+    let mut b: usize = 0;
+    while b < a {
+        j = put_server(t, s, a, m, Seat(b as u32), j);
+        b += 1;
+    }
+}
+
+// The table of a good record.
+fn build(t: &mut [u32], s: &[u8], a: usize, n: usize)
+    requires { ⌜ (Good (now s) a n) × (Shape (now t) a) ⌝ }
+    ensures { λ _. ⌜ now (t .exit) ≡ words (tableFrom (now (s .entry))) ⌝ }
+{
+    lay_bare(t, a, a);
+    take_all(t, s, a, n);
+    put_servers(t, s, a, n);
+}
+
+// Loading a record. Nothing is written before the whole record and the run's length are known to be good.
+pub fn load(t: &mut [u32], s: &[u8]) -> Loaded
+    ensures { λ r. ⌜ outcome (loadedAnswer r) (now (t .exit)) ≡ loadCall (now (t .entry)) (now (s .entry)) ⌝ }
+{
+    let Form::Of(a, n) = form_of(s) else {
+        return Loaded::Refused(Refusal::Form);
+    };
+    if t.len() != 2 + 6 * a {
+        return Loaded::Refused(Refusal::Size);
+    }
+    build(t, s, a, n);
+    Loaded::Seats(n as u32)
 }

@@ -34,6 +34,13 @@ rank-same A F (suc n) h = ap₂ (λ (r : ℕ) (t : Bool). r + cond t 1 0) (rank-
 rank-grows : (A : List ℕ) (n : ℕ) → rank A n ≤ rank A (suc n)
 rank-grows A n = omega arith
 
+pub rank-mono : (A : List ℕ) (n b : ℕ) → b ≤ n → rank A b ≤ rank A n
+rank-mono A zero b h = let e : b ≡ 0 = omega arith in rw e (omega arith)
+rank-mono A (suc n) b h = elim (ℕ-discrete b (suc n)) [
+  | yes e ↦ rw e (omega arith)
+  | no ne ↦ omega (arith, rank-mono A n b (omega arith), rank-grows A n)
+]
+
 -- a seat in use counts for every seat after it
 pub rank-below : (A : List ℕ) (n b : ℕ) → b < n → A ! b ≡ 0 → rank A b < rank A n
 rank-below A zero b h z = absurd (omega arith)

@@ -1,0 +1,22 @@
+-- What load's steps ask of a run and leave in it, in the words of crate `saved`'s Reader.
+use mathlib.Core.Path.{_≡_}
+use mathlib.Core.List.{List}
+use Prim.Native.Nat.{ℕ, _-_}
+use lib.ListN.{length}
+use Rattle.rules.specs.Table.{Table, words}
+use Rattle.saved.specs.Reader.{bareFrom}
+use Rattle.saved.specs.Fits.{HeadFits, BodyFits}
+
+abbrev pub tableAt : List ℕ → ℕ → ℕ → ℕ → List ℕ → Table
+tableAt s a m i S = record { bare = bareFrom s a m i; S = S }
+
+-- the run holds the table after i removals of the m that the bytes s name, with any ids
+pub record Laid (s w : List ℕ) (a m i : ℕ) : Type 0 where
+  pub S : List ℕ
+  pub size : length S ≡ a
+  pub is : w ≡ words (tableAt s a m i S)
+
+-- the bytes are a record of a seats with n in use
+pub record Good (s : List ℕ) (a n : ℕ) : Type 0 where
+  pub head : HeadFits s a n
+  pub body : BodyFits s a n
