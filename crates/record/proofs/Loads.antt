@@ -73,3 +73,15 @@ module _ (s : List ℕ) (a n : ℕ) (e : formOf s ≡ Of a n) where
           let k = names s a n r e in
           let long : eqb (length w) (runLength (r .table .bare .seats)) ≡ true = eq-eqb _ _ (size ∙ ap runLength (sym (k .seats))) in
           rw long (ap₂ (λ (y : ℕ) (l : List ℕ). done (y ∷ []) l) (sym (k .used)) (is ∙ ap words (record-table r)))
+
+-- of a record
+pub load-is : (w s : List ℕ) (r : IsRecord s) → length w ≡ runLength (r .table .bare .seats) → done (r .table .bare .used ∷ []) (words (r .table)) ≡ loadCall w s
+unfolding loadCall
+load-is w s r size = go (record? s)
+  where
+    go : (d : Dec (IsRecord s)) → done (r .table .bare .used ∷ []) (words (r .table)) ≡ loadBy w d
+    go (no n) = absurd (n r)
+    go (yes q) =
+        let same : r .table ≡ q .table = sym (record-table r) ∙ record-table q in
+        let long : eqb (length w) (runLength (q .table .bare .seats)) ≡ true = eq-eqb _ _ (size ∙ ap (λ (T : Table). runLength (T .bare .seats)) same) in
+        rw long (ap (λ (T : Table). done (T .bare .used ∷ []) (words T)) same)

@@ -65,21 +65,24 @@ module _ (w : List ℕ) (s : Sound w) where
       let short : ltb (length out) (length (recordOf T)) ≡ true = lt-ltb _ _ (subst (λ (n : ℕ). length out < n) (sym (length-recordOf T good)) h) in
       rw (legal-is w (sound-legal s), is-sound w s, short)
 
+  pub save-is : (out : List ℕ) → length (recordOf T) ≤ length out → done (length (recordOf T) ∷ []) (recordOf T ++ drop (length (recordOf T)) out) ≡ saveCall w out
+  unfolding saveCall
+  save-is out h = rw (legal-is w (sound-legal s), is-sound w s, le-ltb (length out) (length (recordOf T)) h) refl
+
   pub save-done : (out o₁ o₂ o₃ : List ℕ) → recordLength (w ! 0) (w ! 1) ≤ length out
       → o₁ ≡ sets out 0 (headRecord field (w ! 0) (w ! 1))
       → o₂ ≡ sets o₁ 6 (each (removalRecord T) (w ! 0 - w ! 1))
       → o₃ ≡ sets o₂ (6 + 4 * (w ! 0 - w ! 1)) (each (seatRecord T) (w ! 0))
       → done (recordLength (w ! 0) (w ! 1) ∷ []) o₃ ≡ saveCall w out
-  unfolding saveCall recordOf
+  unfolding recordOf
   save-done out o₁ o₂ o₃ h e₁ e₂ e₃ =
       let m = w ! 0 - w ! 1 in
       let head = headRecord field (w ! 0) (w ! 1) in
       let outs = each (removalRecord T) m in
       let ins = each (seatRecord T) (w ! 0) in
       let size = length-recordOf T good in
-      let room : ltb (length out) (length (recordOf T)) ≡ false = le-ltb _ _ (subst (λ (n : ℕ). n ≤ length out) (sym size) h) in
       let bodied : o₃ ≡ sets o₁ 6 (outs ++ ins) = put-then o₁ o₂ o₃ 6 (6 + 4 * m) outs ins (ap (λ (n : ℕ). 6 + n) (sym (length-removals T m))) e₂ e₃ in
       let whole : o₃ ≡ sets out 0 (recordOf T) = put-then out o₁ o₃ 0 6 head (outs ++ ins) refl e₁ bodied in
       let written : o₃ ≡ recordOf T ++ drop (length (recordOf T)) out = whole ∙ sets-eq (recordOf T) out 0 (omega arith) ∙ ap (λ (n : ℕ). recordOf T ++ drop n out) (zero-add (length (recordOf T))) in
       ap₂ (λ (n : ℕ) (o : List ℕ). done (n ∷ []) o) (sym size) written
-      ∙ rw (legal-is w (sound-legal s), is-sound w s, room) refl
+      ∙ save-is out (omega arith)
