@@ -1,14 +1,13 @@
 -- Decisions of statements that are told in parts.
 -- Assumes nothing.
-use mathlib.Core.Path.{_≡_, refl, _∙_}
+use mathlib.Core.Path.{_≡_, _∙_}
 use mathlib.Core.Logic.{_≢_}
 use mathlib.Core.Bool.{Bool, true, false, _&&_}
-use Prim.Native.Nat.{ℕ, suc, _+_, _-_, _<_, _≤_, max}
+use Prim.Native.Nat.{ℕ, _+_, _-_, _<_, _≤_, max}
 use native.Mathlib.Omega.{arith}
 use borrow.Author.Count.{below-more}
-use native.Mathlib.Decide.{ℕ-discrete}
 use Rattle.rules.specs.Table.{_!_, Bare, Table}
-use Rattle.sound.specs.Test.{Owes, gone, stays, Cut, stood, moved}
+use Rattle.sound.specs.Test.{Owes, stays, Cut, stood, moved}
 use Rattle.sound.proofs.Audit.{owes-stays}
 use Rattle.rules.specs.Decides.{Decides}
 use Rattle.rules.proofs.Decided.{decides-iff}

@@ -1,25 +1,23 @@
 -- In a sound table each place that a change stores to is in the run.
 -- Assumes nothing.
-use mathlib.Core.Path.{_≡_, sym, ap, _∙_}
+use mathlib.Core.Path.{_≡_, sym, _∙_}
 use mathlib.Core.Bool.{true}
 use mathlib.Core.List.{List}
 use mathlib.Core.Logic.{_≢_}
-use Prim.Native.Nat.{ℕ, _-_, _<_, _≤_}
+use Prim.Native.Nat.{ℕ, _-_, _<_}
 use native.Mathlib.Omega.{arith}
 use native.Mathlib.Decide.{ℕ-discrete}
 use lib.ListN.{length, set}
 use lib.Seq.{getD-set-same, getD-set-other}
-use Rattle.rules.specs.Table.{_!_, Bare, Table, tableOf}
+use Rattle.rules.specs.Table.{_!_, Bare, tableOf}
 use Rattle.rules.specs.Changes.{lastOut}
-use Rattle.rules.specs.History.{Sound, Reached}
+use Rattle.rules.specs.History.{Sound}
 use Rattle.rules.specs.Ids.{occurs, placeOf}
-use Rattle.rules.proofs.Words.{Legal}
 use Rattle.sound.specs.Kept.{Kept}
 use Rattle.sound.specs.Test.{Test, Cut, stood, moved}
-use Rattle.sound.proofs.Reached.{Passes, passes, reached-kept, named-in-use}
+use Rattle.sound.proofs.Reached.{passes, reached-kept, named-in-use}
 use Rattle.sound.proofs.Sound.{sound-legal, sound-table}
 use Rattle.ids.proofs.Meaning.{placed}
-use Rattle.parts.specs.Shape.{Shape}
 use Rattle.changes.specs.Steps.{Leads, CanTake, CanSeat}
 
 -- the seat taken out last stood last, or what stood last took its place

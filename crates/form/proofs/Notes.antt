@@ -1,19 +1,18 @@
 -- A flag for each seat out of use tells what A tells: taking a seat out makes both not 0.
 -- Assumes nothing.
-use mathlib.Core.Path.{_≡_, refl, sym, ap, ap₂, _∙_, subst}
+use mathlib.Core.Path.{_≡_, refl, sym, ap, ap₂, _∙_}
 use mathlib.Core.Bool.{Bool, true, false}
 use mathlib.Core.List.{List}
 use mathlib.Core.Logic.{_≢_}
-use Prim.Native.Nat.{ℕ, zero, suc, _+_, _*_, _-_, _<_, _≤_}
+use Prim.Native.Nat.{ℕ, _+_, _-_, _<_}
 use native.Mathlib.Omega.{arith}
 use native.Mathlib.Numerals.{add-one}
 use native.Mathlib.Decide.{ℕ-discrete}
-use lib.ListN.{length, set, replicate, length-set, length-replicate}
+use lib.ListN.{set, replicate, length-set, length-replicate}
 use lib.Seq.{getD-set-same, getD-set-other}
 use lib.Dec.{eqb}
 use borrow.Author.Tests.{eq-eqb, ne-eqb, eqb-true}
-use Rattle.rules.specs.Table.{_!_, Bare, mostSeats}
-use Rattle.rules.specs.Changes.{out}
+use Rattle.rules.specs.Table.{_!_, mostSeats}
 use Rattle.rules.proofs.Lists.{zeros-at}
 use Rattle.rules.proofs.Decided.{true-or-false}
 use Rattle.sound.specs.Kept.{Leaves}

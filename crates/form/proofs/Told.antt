@@ -1,25 +1,24 @@
 -- What the tests tell together: the flags stand for A, so the records of the seats without a flag are those of the seats in use.
 -- Assumes nothing.
-use mathlib.Core.Path.{_≡_, refl, sym, ap, ap₂, _∙_, subst}
+use mathlib.Core.Path.{_≡_, refl, sym, ap₂, _∙_, subst}
 use mathlib.Core.Bool.{Bool}
 use mathlib.Core.List.{List}
-use Prim.Native.Nat.{ℕ, _+_, _*_, _-_, _<_, _≤_}
+use Prim.Native.Nat.{ℕ, _-_, _<_, _≤_}
 use native.Mathlib.Omega.{arith}
 use lib.ListN.{length}
 use lib.Dec.{eqb}
 use borrow.Author.Tests.{eq-eqb, eqb-true}
-use Rattle.rules.specs.Table.{_!_, mostSeats}
+use Rattle.rules.specs.Table.{_!_}
 use Rattle.rules.specs.Decides.{Decides}
 use Rattle.rules.proofs.Decided.{decides-iff}
 use Rattle.sound.proofs.Reached.{passes}
 use Rattle.saved.specs.Record.{IsRecord}
 use Rattle.saved.specs.Reader.{rank, inAt, seatsIn, usedIn, bareFrom}
-use Rattle.saved.specs.Fits.{HeadFits, InFits, AllOut, AllIn, AllNew, BodyFits, Fits}
+use Rattle.saved.specs.Fits.{HeadFits, InFits, AllOut, AllIn, AllNew, BodyFits}
 use Rattle.saved.proofs.Ranks.{rank-same}
 use Rattle.saved.proofs.Holds.{seats-is, used-is}
 use Rattle.saved.proofs.Back.{record?}
 use Rattle.saved.proofs.Exact.{outs-rank, exact}
-use Rattle.form.specs.declared.Form.{Form}
 use Rattle.form.specs.declared.Form.the-variants.{Of, Bad}
 use Rattle.form.specs.Form.{formIn, formOf}
 use Rattle.form.specs.Tests.{Noted}

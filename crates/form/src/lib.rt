@@ -1,10 +1,8 @@
 // Whether bytes are a record, told by a read that never writes.
 ghost use mathlib.Core.Path.{_≡_};
-ghost use mathlib.Core.Bool.{cond};
 ghost use Prim.Native.Nat.{_+_, _*_, _-_, _<_, _≤_};
 ghost use lib.ListN.{length, replicate};
-ghost use lib.Dec.{eqb};
-ghost use Rattle.rules.specs.Table.{_!_, mostSeats};
+ghost use Rattle.rules.specs.Table.{mostSeats};
 ghost use Rattle.rules.specs.Decides.{Decides};
 ghost use Rattle.saved.specs.Reader.{rank, inAt, serverAt, bareFrom};
 ghost use Rattle.saved.specs.Fits.{HeadFits, InFits, AllIn, New, AllNew, BodyFits};

@@ -1,26 +1,25 @@
 -- A good record's table is built as it reads: from a full table the removals make the rest, and then each seat gets its server.
 -- Assumes nothing.
 use mathlib.Core.Path.{_≡_, refl, sym, ap, ap₂, _∙_, subst}
-use mathlib.Core.List.{List, [], _∷_, _++_, append-nil}
+use mathlib.Core.List.{List, append-nil}
 use mathlib.Core.Logic.{_≢_}
-use Prim.Native.Nat.{ℕ, zero, suc, _+_, _*_, _-_, _<_, _≤_}
+use Prim.Native.Nat.{ℕ, _+_, _-_, _<_, _≤_}
 use native.Mathlib.Omega.{arith}
 use native.Mathlib.Numerals.{add-one}
 use lib.ListN.{length, set, replicate, length-set}
 use borrow.Author.Tests.{eq-eqb, ne-eqb}
-use Rattle.rules.specs.Table.{_!_, Bare, Table, parts, words, base, runLength, mostSeats, tableFor, tableOf}
+use Rattle.rules.specs.Table.{_!_, Bare, Table, parts, words, base, runLength, tableFor}
 use Rattle.rules.specs.Changes.{out, takeOut}
 use Rattle.rules.specs.Keys.{full}
 use Rattle.rules.proofs.Parts.{All, none, more}
 use Rattle.rules.proofs.Words.{Holds, holds-put, tableOf-words, length-words}
-use Rattle.parts.specs.Shape.{Shape}
 use Rattle.sound.specs.Form.{after}
 use Rattle.sound.proofs.Made.{After, after-is, fewer-still}
-use Rattle.layout.specs.Layout.{openA, openR, openBare}
+use Rattle.layout.specs.Layout.{openBare}
 use Rattle.layout.proofs.Filling.{Filled, filled-none, filled-more, filled-all}
 use Rattle.changes.specs.Steps.{Leads, CanTake}
 use Rattle.changes.proofs.Ready.{can-leave}
-use Rattle.saved.specs.Reader.{listed, rank, inAt, seatsIn, usedIn, leftAt, serverAt, serverOf, bareFrom, tableFrom}
+use Rattle.saved.specs.Reader.{listed, rank, inAt, leftAt, serverAt, serverOf, bareFrom, tableFrom}
 use Rattle.saved.proofs.Each.{length-listed, listed-at}
 use Rattle.saved.proofs.Ranks.{rank-used, rank-out, rank-mono}
 use Rattle.saved.proofs.Exact.{outs-takeable, outs-rank}

@@ -4,7 +4,7 @@ use mathlib.Core.Path.{_≡_, refl, sym, ap, _∙_, subst}
 use mathlib.Core.List.{List, [], _∷_, _++_}
 use Prim.Native.Nat.{ℕ, _≤_}
 use lib.ListN.{length, drop}
-use Rattle.rules.specs.Table.{Table, words, tableOf}
+use Rattle.rules.specs.Table.{words, tableOf}
 use Rattle.rules.specs.History.{Sound}
 use Rattle.rules.specs.Answers.{done}
 use Rattle.rules.proofs.Words.{tableOf-words}

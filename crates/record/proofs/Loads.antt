@@ -4,7 +4,7 @@ use mathlib.Core.Path.{_≡_, refl, sym, ap, ap₂, _∙_, subst}
 use mathlib.Core.Bool.{true, false}
 use mathlib.Core.List.{List, [], _∷_}
 use mathlib.Core.Logic.{_≢_}
-use Prim.Native.Nat.{ℕ, _<_}
+use Prim.Native.Nat.{ℕ}
 use native.Mathlib.Omega.{arith}
 use lib.ListN.{length}
 use lib.Dec.{eqb}
@@ -15,7 +15,6 @@ use Rattle.rules.specs.declared.Refusal.the-variants.{Size, Form}
 use Rattle.sound.proofs.Reached.{passes}
 use Rattle.saved.specs.Record.{IsRecord}
 use Rattle.saved.specs.Reader.{tableFrom}
-use Rattle.saved.specs.Fits.{HeadFits, BodyFits}
 use Rattle.saved.proofs.Back.{record?, record-table}
 use Rattle.saved.proofs.Exact.{record-head, record-body}
 use Rattle.form.specs.declared.Form.the-variants.{Of, Bad}

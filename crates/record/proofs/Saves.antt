@@ -1,8 +1,8 @@
 -- What each way out of a save answers. The record's three runs of bytes follow each other, so they are the record whole.
 -- Assumes nothing.
 use mathlib.Core.Path.{_≡_, refl, sym, ap, ap₂, _∙_, subst}
-use mathlib.Core.Bool.{true, false, not}
-use mathlib.Core.List.{List, [], _∷_, _++_, append-assoc}
+use mathlib.Core.Bool.{true}
+use mathlib.Core.List.{List, [], _∷_, _++_}
 use Prim.Native.Nat.{ℕ, _+_, _*_, _-_, _<_, _≤_}
 use native.Mathlib.Nat.{zero-add}
 use native.Mathlib.Omega.{arith}
@@ -10,7 +10,7 @@ use lib.ListN.{length, drop}
 use lib.Seq.{sets, sets-eq}
 use lib.Dec.{ltb}
 use borrow.Author.Tests.{lt-ltb, le-ltb}
-use Rattle.rules.specs.Table.{_!_, Table, mostSeats, tableOf, legal}
+use Rattle.rules.specs.Table.{_!_, Table, tableOf}
 use Rattle.rules.specs.History.{Sound}
 use Rattle.rules.specs.Answers.{refused, refusedAt, done, _⇒_}
 use Rattle.rules.specs.declared.Refusal.{Refusal}

@@ -1,7 +1,7 @@
 -- What load's steps ask of a run and leave in it, in the words of crate `saved`'s Reader.
 use mathlib.Core.Path.{_≡_}
 use mathlib.Core.List.{List}
-use Prim.Native.Nat.{ℕ, _-_}
+use Prim.Native.Nat.{ℕ}
 use lib.ListN.{length}
 use Rattle.rules.specs.Table.{Table, words}
 use Rattle.saved.specs.Reader.{bareFrom}

@@ -7,7 +7,7 @@ ghost use Rattle.rules.specs.Table.{words, tableFor, base};
 ghost use Rattle.rules.specs.History.{Sound};
 ghost use Rattle.parts.specs.Shape.{Shape};
 ghost use Rattle.changes.specs.Calls.{outcome};
-ghost use Rattle.saved.specs.Reader.{rank, inAt, serverOf, bareFrom, tableFrom};
+ghost use Rattle.saved.specs.Reader.{rank, inAt, serverOf, tableFrom};
 ghost use Rattle.saved.specs.Record.{field, headRecord, outRecord, inRecord, each, seatRecord, removalRecord};
 ghost use Rattle.record.specs.Building.{Laid, Good};
 ghost use Rattle.record.specs.Calls.{savedAnswer, saveCall, loadedAnswer, loadCall};

@@ -1,16 +1,13 @@
 -- Reading undoes writing: `tableFrom` gives a reached table back from its record, because each field reads back and the
 -- removals make the rest. So each table has one record, each record one table, and whether bytes are a record is decided.
 -- Assumes nothing.
-use mathlib.Core.Path.{_≡_, refl, sym, ap, ap₂, _∙_, subst}
-use mathlib.Core.Bool.{cond}
+use mathlib.Core.Path.{_≡_, refl, sym, ap, _∙_, subst}
 use mathlib.Core.List.{List, List-discrete}
-use mathlib.Core.Logic.{_≢_, Dec·and}
+use mathlib.Core.Logic.{Dec·and}
 use Prim.Native.Nat.{ℕ, _-_, _<_, _≤_}
 use native.Mathlib.Omega.{arith}
 use native.Mathlib.Decide.{ℕ-discrete, map-dec}
-use lib.ListN.{length}
 use lib.Seq.{ext-getD}
-use lib.Dec.{eqb}
 use borrow.Author.Tests.{eq-eqb, ne-eqb}
 use Rattle.rules.specs.Table.{_!_, Bare, Table}
 use Rattle.rules.specs.History.{Reached}
@@ -20,7 +17,7 @@ use Rattle.sound.proofs.Audit.{as-made}
 use Rattle.sound.proofs.Reached.{Passes, passes}
 use Rattle.sound.proofs.Sound.{reached?}
 use Rattle.saved.specs.Record.{recordOf, IsRecord}
-use Rattle.saved.specs.Reader.{listed, rank, seatsIn, usedIn, goneIn, leftAt, serverOf, bareFrom, tableFrom}
+use Rattle.saved.specs.Reader.{listed, leftAt, serverOf, bareFrom, tableFrom}
 use Rattle.saved.proofs.Each.{length-listed, listed-at}
 use Rattle.saved.proofs.Holds.{seats-is, used-is, left-is, server-is}
 

@@ -1,14 +1,12 @@
 -- Records one after the other: how long they are, and what stands where. By induction on how many there are.
 -- Assumes nothing.
-use mathlib.Core.Path.{_≡_, refl, sym, ap, ap₂, _∙_}
-use mathlib.Core.Bool.{Bool, true, false, cond}
+use mathlib.Core.Path.{_≡_, refl, ap₂, _∙_}
 use mathlib.Core.List.{List, [], _∷_, _++_}
 use Prim.Native.Nat.{ℕ, zero, suc, _+_, _*_, _<_, _≤_}
 use native.Mathlib.Omega.{arith}
 use native.Mathlib.Decide.{ℕ-discrete}
-use lib.ListN.{length, getD, length-append, List·getD-append}
+use lib.ListN.{length, length-append, List·getD-append}
 use lib.Seq.{getD-at}
-use lib.Dec.{eqb}
 use Rattle.rules.specs.Table.{_!_}
 use Rattle.saved.specs.Record.{each}
 use Rattle.saved.specs.Reader.{Stands, listed}

@@ -3,14 +3,12 @@
 -- ids, so it is sound, and each field of its record stands where it was read.
 -- Assumes nothing.
 use mathlib.Core.Path.{_≡_, refl, sym, ap, ap₂, _∙_, subst}
-use mathlib.Core.Bool.{cond}
-use mathlib.Core.List.{List, _++_}
+use mathlib.Core.List.{List}
 use mathlib.Core.Logic.{_≢_, _↔_}
 use Prim.Native.Nat.{ℕ, suc, _+_, _*_, _-_, _<_, _≤_}
 use native.Mathlib.Omega.{arith}
 use native.Mathlib.Decide.{ℕ-discrete, decLt}
 use lib.ListN.{length}
-use lib.Dec.{eqb}
 use borrow.Author.Tests.{eq-eqb, ne-eqb}
 use Rattle.rules.specs.Table.{_!_, Bare, Table}
 use Rattle.sound.specs.Kept.{Leaves}
@@ -19,9 +17,9 @@ use Rattle.sound.proofs.Made.{After, after-is, fewer-still, next-leaves, takeab
 use Rattle.sound.proofs.Passes.{made-passes}
 use Rattle.sound.proofs.Audit.{R-takeable}
 use Rattle.sound.proofs.Reached.{Passes, passes, reached}
-use Rattle.saved.specs.Record.{bytes, headMark, outMark, inMark, field, headRecord, outRecord, inRecord, each, removalRecord, seatRecord, recordOf, IsRecord}
-use Rattle.saved.specs.Reader.{numberAt, Stands, listed, rank, outAt, inAt, seatsIn, usedIn, goneIn, leftAt, serverAt, serverOf, bareFrom, tableFrom}
-use Rattle.saved.specs.Fits.{HeadFits, OutFits, InFits, AllOut, AllIn, AllNew, BodyFits, Fits}
+use Rattle.saved.specs.Record.{bytes, headMark, outMark, inMark, field, headRecord, each, removalRecord, seatRecord, recordOf, IsRecord}
+use Rattle.saved.specs.Reader.{Stands, listed, rank, outAt, inAt, seatsIn, usedIn, goneIn, leftAt, serverAt, serverOf, bareFrom, tableFrom}
+use Rattle.saved.specs.Fits.{HeadFits, InFits, AllOut, AllIn, AllNew, BodyFits, Fits}
 use Rattle.saved.proofs.Fields.{stands-both, stands-whole, bytes-number, number-below}
 use Rattle.saved.proofs.Each.{stands-each, length-listed, listed-at}
 use Rattle.saved.proofs.Ranks.{rank-below, rank-injective, rank-onto, rank-after, rank-all, length-seats}

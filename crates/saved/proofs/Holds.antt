@@ -1,18 +1,15 @@
 -- What stands where in the record of a reached table. Each record before it has its length, which gives its place.
 -- Assumes nothing.
-use mathlib.Core.Path.{_≡_, refl, sym, ap, ap₂, _∙_, subst}
-use mathlib.Core.Bool.{Bool, true, false, cond}
-use mathlib.Core.List.{List, [], _∷_, _++_}
-use mathlib.Core.Logic.{_≢_}
-use Prim.Native.Nat.{ℕ, zero, suc, _+_, _*_, _-_, _<_, _≤_}
+use mathlib.Core.Path.{_≡_, refl, sym, subst}
+use mathlib.Core.List.{List, _++_}
+use Prim.Native.Nat.{ℕ, _+_, _*_, _-_, _<_}
 use native.Mathlib.Omega.{arith}
-use lib.ListN.{length, take, drop, length-append}
-use lib.Dec.{eqb}
+use lib.ListN.{length, length-append}
 use borrow.Author.Tests.{eq-eqb}
-use Rattle.rules.specs.Table.{_!_, Bare, Table}
+use Rattle.rules.specs.Table.{_!_, Table}
 use Rattle.sound.proofs.Reached.{Passes}
-use Rattle.saved.specs.Record.{bytes, headMark, outMark, inMark, field, headRecord, outRecord, inRecord, each, seatRecord, removalRecord, recordOf}
-use Rattle.saved.specs.Reader.{numberAt, Stands, rank, outAt, inAt, seatsIn, usedIn, goneIn, leftAt, serverAt}
+use Rattle.saved.specs.Record.{bytes, headMark, outMark, inMark, field, headRecord, inRecord, each, seatRecord, removalRecord, recordOf}
+use Rattle.saved.specs.Reader.{numberAt, Stands, rank, outAt, inAt, seatsIn, usedIn, leftAt, serverAt}
 use Rattle.saved.proofs.Fields.{stands-left, stands-right, stands-self, number-bytes}
 use Rattle.saved.proofs.Each.{length-each, stands-at}
 use Rattle.saved.proofs.Ranks.{rank-all, length-seats}

@@ -2,20 +2,20 @@
 -- Assumes nothing.
 use mathlib.Core.Path.{_≡_, refl, sym, ap, ap₂, _∙_}
 use mathlib.Core.Bool.{Bool, true, false, cond}
-use mathlib.Core.List.{List, [], _∷_, _++_}
+use mathlib.Core.List.{List, []}
 use mathlib.Core.Logic.{_≢_}
 use Prim.Native.Nat.{ℕ, zero, suc, _+_, _*_, _-_, _<_, _≤_}
 use native.Mathlib.Omega.{arith}
 use native.Mathlib.Decide.{ℕ-discrete, decLt}
-use lib.ListN.{length, set, replicate, length-append, length-replicate}
+use lib.ListN.{length, set, replicate, length-append}
 use lib.Seq.{getD-set-same, getD-set-other}
 use lib.Dec.{eqb}
-use borrow.Author.Tests.{eq-eqb, ne-eqb, eqb-true}
+use borrow.Author.Tests.{eq-eqb, ne-eqb}
 use Rattle.rules.specs.Table.{_!_, Bare, Table}
 use Rattle.rules.proofs.Lists.{zeros-at}
 use Rattle.sound.specs.Form.{after, Takeable}
 use Rattle.sound.specs.Test.{Test}
-use Rattle.sound.proofs.Made.{After, after-is, fewer-still, next-leaves}
+use Rattle.sound.proofs.Made.{after-is, fewer-still, next-leaves}
 use Rattle.sound.proofs.Audit.{R-takeable, as-made}
 use Rattle.saved.specs.Record.{field, inRecord, each, seatRecord}
 use Rattle.saved.specs.Reader.{rank}

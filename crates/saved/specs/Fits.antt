@@ -4,10 +4,10 @@ use mathlib.Core.List.{List}
 use mathlib.Core.Logic.{_≢_}
 use Prim.Native.Nat.{ℕ, _+_, _*_, _-_, _<_, _≤_}
 use lib.ListN.{length}
-use Rattle.rules.specs.Table.{_!_, Bare, mostSeats}
+use Rattle.rules.specs.Table.{_!_, mostSeats}
 use Rattle.sound.specs.Kept.{Leaves}
 use Rattle.saved.specs.Record.{headMark, outMark, inMark, field}
-use Rattle.saved.specs.Reader.{numberAt, Stands, rank, outAt, inAt, seatsIn, usedIn, goneIn, leftAt, serverAt, bareFrom}
+use Rattle.saved.specs.Reader.{numberAt, Stands, rank, outAt, inAt, seatsIn, usedIn, leftAt, serverAt, bareFrom}
 
 -- a head of a seats with n in use, and bytes for its records
 pub record HeadFits (s : List ℕ) (a n : ℕ) : Type 0 where

@@ -3,7 +3,7 @@
 use native.Mathlib.Omega.{arith}
 use borrow.Author.Needs.{needs}
 use mathlib.Core.Path.{_≡_}
-use Prim.Native.Nat.{ℕ, _-_, _≤_}
+use Prim.Native.Nat.{_-_, _≤_}
 use Rattle.rules.specs.Decides.{Decides}
 use Rattle.rules.proofs.Decided.{decides-more}
 use Rattle.saved.specs.Fits.{New, AllNew}

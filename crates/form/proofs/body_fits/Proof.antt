@@ -1,8 +1,6 @@
 -- `form::body_fits` meets its contract: the removals, the seats in use and the servers are tested in turn.
 -- Assumes nothing.
-use native.Mathlib.Omega.{arith}
 use borrow.Author.Needs.{needs}
-use Prim.Native.Nat.{_-_}
 use Rattle.rules.proofs.Decided.{decides-true, decides-false}
 use Rattle.form.proofs.Notes.{outs-yes, outs-no}
 use Rattle.form.proofs.Told.{ins-room, body-told, body-ins}

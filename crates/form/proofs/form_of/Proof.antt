@@ -2,7 +2,7 @@
 -- Assumes nothing.
 use native.Mathlib.Omega.{arith}
 use borrow.Author.Needs.{needs}
-use mathlib.Core.Path.{_≡_, sym, ap, _∙_, subst}
+use mathlib.Core.Path.{subst}
 use Rattle.rules.proofs.Decided.{decides-true, decides-false}
 use Rattle.saved.specs.Fits.{HeadFits}
 use Rattle.form.specs.Tests.{HeadTold}

@@ -2,7 +2,7 @@
 -- Assumes nothing.
 use native.Mathlib.Omega.{arith}
 use borrow.Author.Needs.{needs}
-use mathlib.Core.Path.{_≡_, refl, sym, _∙_}
+use mathlib.Core.Path.{sym}
 use Rattle.rules.proofs.Decided.{decides-true, decides-false}
 use Rattle.form.proofs.head_of.Statement.{statement}
 use Rattle.form.proofs.head_of.Tie as tie

@@ -2,7 +2,7 @@
 -- Assumes nothing.
 use native.Mathlib.Omega.{arith}
 use borrow.Author.Needs.{needs}
-use mathlib.Core.Path.{_≡_, refl, sym, _∙_}
+use mathlib.Core.Path.{sym, _∙_}
 use Rattle.rules.proofs.Decided.{decides-true, decides-false}
 use Rattle.form.proofs.in_fits.Statement.{statement}
 use Rattle.form.proofs.in_fits.Tie as tie

@@ -2,11 +2,9 @@
 -- Assumes nothing.
 use native.Mathlib.Omega.{arith}
 use borrow.Author.Needs.{needs}
-use mathlib.Core.Path.{_≡_, sym, ap, ap₂, _∙_}
-use mathlib.Core.Bool.{not}
+use mathlib.Core.Path.{_≡_}
 use mathlib.Core.Logic.{_≢_}
 use Prim.Native.Nat.{ℕ, _-_, _<_, _≤_}
-use lib.Dec.{eqb}
 use Rattle.rules.specs.Decides.{Decides}
 use Rattle.rules.proofs.Decided.{decides-more, decides-other}
 use Rattle.saved.specs.Reader.{serverAt}

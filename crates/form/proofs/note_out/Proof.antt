@@ -2,8 +2,8 @@
 -- Assumes nothing.
 use native.Mathlib.Omega.{arith}
 use borrow.Author.Needs.{needs}
-use mathlib.Core.Path.{_≡_, refl, sym, ap, _∙_}
-use Prim.Native.Nat.{ℕ, _+_, _*_}
+use mathlib.Core.Path.{ap, _∙_}
+use Prim.Native.Nat.{ℕ}
 use Rattle.rules.specs.Table.{_!_}
 use Rattle.rules.proofs.Decided.{decides-true, decides-false}
 use Rattle.saved.specs.Reader.{bareFrom}

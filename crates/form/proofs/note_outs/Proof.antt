@@ -3,8 +3,8 @@
 use native.Mathlib.Omega.{arith}
 use borrow.Author.Count.{below-more}
 use borrow.Author.Needs.{needs}
-use mathlib.Core.Path.{_≡_, refl, sym, ap, _∙_, subst}
-use Prim.Native.Nat.{ℕ, _+_, _-_, _≤_}
+use mathlib.Core.Path.{_≡_, refl}
+use Prim.Native.Nat.{_-_, _≤_}
 use lib.ListN.{length}
 use Rattle.saved.specs.Reader.{bareFrom}
 use Rattle.saved.specs.Fits.{AllOut}

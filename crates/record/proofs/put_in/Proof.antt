@@ -1,6 +1,5 @@
 -- `record::put_in` meets its contract: its fields follow each other.
 -- Assumes nothing.
-use native.Mathlib.Omega.{arith}
 use borrow.Author.Needs.{needs}
 use mathlib.Core.Path.{refl}
 use mathlib.Core.List.{_++_}

@@ -2,15 +2,11 @@
 -- Assumes nothing.
 use native.Mathlib.Omega.{arith}
 use borrow.Author.Needs.{needs}
-use mathlib.Core.Path.{_≡_, refl, sym, ap, _∙_}
-use mathlib.Core.Bool.{true, false}
-use Prim.Native.Nat.{ℕ, suc, _+_}
-use native.Mathlib.Numerals.{add-one}
+use mathlib.Core.Path.{_≡_, sym, ap, _∙_}
+use Prim.Native.Nat.{_+_}
 use lib.ListN.{set}
-use lib.Dec.{eqb}
-use borrow.Author.Tests.{eq-eqb, ne-eqb}
-use Rattle.rules.specs.Table.{_!_, base, tableFor}
-use Rattle.saved.specs.Reader.{rank, inAt, serverAt, serverOf}
+use Rattle.rules.specs.Table.{base, tableFor}
+use Rattle.saved.specs.Reader.{rank, serverAt, serverOf}
 use Rattle.record.proofs.Built.{no-server, one-server}
 use Rattle.record.proofs.put_server.Statement.{statement}
 use Rattle.record.proofs.put_server.Tie as tie
