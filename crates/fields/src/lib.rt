@@ -7,10 +7,21 @@ ghost use Rattle.rules.specs.Decides.{Decides};
 ghost use Rattle.saved.specs.Record.{bytes};
 ghost use Rattle.saved.specs.Reader.{numberAt, Stands};
 
-// The bytes of a, of N and of a seat; and of a server.
+// The bytes of a mark; of a, of N and of a seat; and of a server.
+pub const MARK: usize = 2;
+
 pub const FIELD: usize = 2;
 
 pub const SERVER: usize = 4;
+
+// Where a record's second field begins; and the bytes of the head, of a removal's record, and of a seat's in use.
+pub const SECOND: usize = MARK + FIELD;
+
+pub const HEAD: usize = SECOND + FIELD;
+
+pub const OUT: usize = MARK + FIELD;
+
+pub const IN: usize = SECOND + SERVER;
 
 // The marks 41 53, 4F 55 and 49 4E.
 pub const HEAD_MARK: [u8; 2] = *b"AS";

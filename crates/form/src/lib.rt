@@ -9,9 +9,14 @@ ghost use Rattle.saved.specs.Fits.{HeadFits, InFits, AllIn, New, AllNew, BodyFi
 ghost use Rattle.form.specs.Form.{formOf};
 ghost use Rattle.form.specs.Tests.{HeadTold, Noted, Leaving, OutTold, OutsTold};
 use fields::FIELD;
+use fields::HEAD;
 use fields::HEAD_MARK;
+use fields::IN;
 use fields::IN_MARK;
+use fields::MARK;
+use fields::OUT;
 use fields::OUT_MARK;
+use fields::SECOND;
 use fields::SERVER;
 use fields::has_mark;
 use fields::number_at;
@@ -27,12 +32,12 @@ pub enum Form {
 fn head_of(s: &[u8]) -> Form
     ensures { λ r. ⌜ HeadTold (now (s .entry)) r ⌝ }
 {
-    if s.len() < 6 {
+    if s.len() < HEAD {
         return Form::Bad;
     }
     if has_mark(s, 0, &HEAD_MARK) {
-        let a = number_at(s, 2, FIELD) as usize;
-        let n = number_at(s, 4, FIELD) as usize;
+        let a = number_at(s, MARK, FIELD) as usize;
+        let n = number_at(s, SECOND, FIELD) as usize;
         if MOST_SEATS < a {
             return Form::Bad;
         }
@@ -42,7 +47,7 @@ fn head_of(s: &[u8]) -> Form
         if a < n {
             return Form::Bad;
         }
-        if s.len() != 6 + 4 * (a - n) + 8 * n {
+        if s.len() != HEAD + OUT * (a - n) + IN * n {
             return Form::Bad;
         }
         return Form::Of(a, n);
@@ -55,9 +60,9 @@ fn note_out(s: &[u8], a: usize, m: usize, i: usize, gone: &mut [u8]) -> bool
     requires { ⌜ (Leaving (now s) a m) × (i < m) × (Noted (bareFrom (now s) a m i .A) (now gone) a) ⌝ }
     ensures { λ r. ⌜ OutTold (now (s .entry)) a m i r (now (gone .exit)) ⌝ }
 {
-    let at = 6 + 4 * i;
+    let at = HEAD + OUT * i;
     if has_mark(s, at, &OUT_MARK) {
-        let b = number_at(s, at + 2, FIELD) as usize;
+        let b = number_at(s, at + MARK, FIELD) as usize;
         if a <= b {
             return false;
         }
@@ -92,10 +97,10 @@ fn in_fits(s: &[u8], at: usize, b: usize) -> bool
     ensures { λ r. ⌜ Decides r (InFits (now (s .entry)) at b) ⌝ }
 {
     if has_mark(s, at, &IN_MARK) {
-        if number_at(s, at + 2, FIELD) as usize != b {
+        if number_at(s, at + MARK, FIELD) as usize != b {
             return false;
         }
-        if number_at(s, at + 4, SERVER) == 0 {
+        if number_at(s, at + SECOND, SERVER) == 0 {
             return false;
         }
         return true;
@@ -112,7 +117,7 @@ fn ins_fit(s: &[u8], a: usize, m: usize, gone: &[u8]) -> bool
     let mut b: usize = 0;
     while b < a {
         if gone[b] == 0 {
-            if in_fits(s, 6 + 4 * m + 8 * j, b) {
+            if in_fits(s, HEAD + OUT * m + IN * j, b) {
                 j += 1;
             } else {
                 return false;
@@ -128,7 +133,7 @@ pub fn server_at(s: &[u8], m: usize, j: usize) -> u32
     requires { ⌜ inAt m (j + 1) ≤ length (now s) ⌝ }
     ensures { λ r. ⌜ r ≡ serverAt (now (s .entry)) m j ⌝ }
 {
-    number_at(s, 6 + 4 * m + 8 * j + 4, SERVER)
+    number_at(s, HEAD + OUT * m + IN * j + SECOND, SERVER)
 }
 
 // Is the j-th server none of those before it? All are looked at, with no way out of the loop.

@@ -15,9 +15,14 @@ use audit::Audited;
 use audit::audit_table;
 use changes::take_out_seat;
 use fields::FIELD;
+use fields::HEAD;
 use fields::HEAD_MARK;
+use fields::IN;
 use fields::IN_MARK;
+use fields::MARK;
+use fields::OUT;
 use fields::OUT_MARK;
+use fields::SECOND;
 use fields::SERVER;
 use fields::number_at;
 use fields::put_mark;
@@ -50,8 +55,8 @@ fn put_head(out: &mut [u8], a: u32, n: u32)
     ensures { λ _. ⌜ now (out .exit) ≡ sets (now (out .entry)) 0 (headRecord field a n) ⌝ }
 {
     put_mark(out, 0, &HEAD_MARK);
-    put_number(out, 2, FIELD, a);
-    put_number(out, 4, FIELD, n);
+    put_number(out, MARK, FIELD, a);
+    put_number(out, SECOND, FIELD, n);
 }
 
 fn put_out(out: &mut [u8], at: usize, b: Seat)
@@ -59,7 +64,7 @@ fn put_out(out: &mut [u8], at: usize, b: Seat)
     ensures { λ _. ⌜ now (out .exit) ≡ sets (now (out .entry)) at (outRecord field (b .0)) ⌝ }
 {
     put_mark(out, at, &OUT_MARK);
-    put_number(out, at + 2, FIELD, b.0);
+    put_number(out, at + MARK, FIELD, b.0);
 }
 
 fn put_in(out: &mut [u8], at: usize, b: Seat, id: u32)
@@ -67,8 +72,8 @@ fn put_in(out: &mut [u8], at: usize, b: Seat, id: u32)
     ensures { λ _. ⌜ now (out .exit) ≡ sets (now (out .entry)) at (inRecord field (b .0) id) ⌝ }
 {
     put_mark(out, at, &IN_MARK);
-    put_number(out, at + 2, FIELD, b.0);
-    put_number(out, at + 4, SERVER, id);
+    put_number(out, at + MARK, FIELD, b.0);
+    put_number(out, at + SECOND, SERVER, id);
 }
 
 // The first m entries of R, oldest first.
@@ -78,7 +83,7 @@ fn put_outs(out: &mut [u8], t: &[u32], a: usize, m: usize)
 {
     let mut i: usize = 0;
     while i < m {
-        put_out(out, 6 + 4 * i, get_r(t, a, i));
+        put_out(out, HEAD + OUT * i, get_r(t, a, i));
         i += 1;
     }
 }
@@ -93,7 +98,7 @@ fn put_seat(out: &mut [u8], at: usize, t: &[u32], a: usize, b: Seat) -> usize
         return at;
     }
     put_in(out, at, b, get_s(t, a, b));
-    at + 8
+    at + IN
 }
 
 // The seats in use, ascending.
@@ -116,8 +121,8 @@ fn save_sound(t: &[u32], out: &mut [u8]) -> Saved
 {
     let a = t[0] as usize;
     let n = t[1] as usize;
-    let ins = 6 + 4 * (a - n);
-    let len = ins + 8 * n;
+    let ins = HEAD + OUT * (a - n);
+    let len = ins + IN * n;
     if out.len() < len {
         return Saved::Refused(Refusal::Room);
     }
@@ -145,7 +150,7 @@ fn take_all(t: &mut [u32], s: &[u8], a: usize, n: usize)
     let m = a - n;
     let mut i: usize = 0;
     while i < m {
-        let b = Seat(number_at(s, 6 + 4 * i + 2, FIELD));
+        let b = Seat(number_at(s, HEAD + OUT * i + MARK, FIELD));
         take_out_seat(t, a, b);
         i += 1;
     }

@@ -9,6 +9,7 @@ use borrow.Author.Tests.{eq-eqb}
 use Rattle.rules.specs.Table.{_!_, Table}
 use Rattle.sound.proofs.Reached.{Passes}
 use Rattle.saved.specs.Record.{bytes, headMark, outMark, inMark, field, headRecord, inRecord, each, seatRecord, removalRecord, recordOf}
+use Rattle.saved.specs.Length.{recordLength}
 use Rattle.saved.specs.Reader.{numberAt, Stands, rank, outAt, inAt, seatsIn, usedIn, leftAt, serverAt}
 use Rattle.saved.proofs.Fields.{stands-left, stands-right, stands-self, number-bytes}
 use Rattle.saved.proofs.Each.{length-each, stands-at}
@@ -17,7 +18,7 @@ use Rattle.saved.proofs.Ranks.{rank-all, length-seats}
 pub length-removals : (T : Table) (n : ℕ) → length (each (removalRecord T) n) ≡ 4 * n
 length-removals T n = length-each (removalRecord T) 4 n (λ i. refl)
 
-pub length-recordOf : (T : Table) → Passes T → length (recordOf T) ≡ 6 + 4 * (T .bare .seats - T .bare .used) + 8 * T .bare .used
+pub length-recordOf : (T : Table) → Passes T → length (recordOf T) ≡ recordLength (T .bare .seats) (T .bare .used)
 unfolding recordOf
 length-recordOf T p =
     let a = T .bare .seats in

@@ -7,6 +7,7 @@ use lib.ListN.{length}
 use Rattle.rules.specs.Table.{_!_, mostSeats}
 use Rattle.sound.specs.Kept.{Leaves}
 use Rattle.saved.specs.Record.{headMark, outMark, inMark, field}
+use Rattle.saved.specs.Length.{recordLength}
 use Rattle.saved.specs.Reader.{numberAt, Stands, rank, outAt, inAt, seatsIn, usedIn, leftAt, serverAt, bareFrom}
 
 -- a head of a seats with n in use, and bytes for its records
@@ -17,7 +18,7 @@ pub record HeadFits (s : List ℕ) (a n : ℕ) : Type 0 where
   pub some : 1 ≤ n
   pub fit : n ≤ a
   pub most : a ≤ mostSeats
-  pub long : length s ≡ 6 + 4 * (a - n) + 8 * n
+  pub long : length s ≡ recordLength a n
 
 -- the record of removal i of m: its seat is in use when it leaves
 pub record OutFits (s : List ℕ) (a m i : ℕ) : Type 0 where
