@@ -7,9 +7,9 @@ ghost use Rattle.rules.specs.Table.{words, tableFor, base};
 ghost use Rattle.rules.specs.History.{Sound};
 ghost use Rattle.parts.specs.Shape.{Shape};
 ghost use Rattle.changes.specs.Calls.{outcome};
-ghost use Rattle.saved.specs.Reader.{rank, inAt, serverOf, tableFrom};
+ghost use Rattle.saved.specs.Reader.{rank, serverOf, tableFrom};
 ghost use Rattle.saved.specs.Record.{field, headRecord, outRecord, inRecord, each, seatRecord, removalRecord};
-ghost use Rattle.record.specs.Building.{Laid, Good};
+ghost use Rattle.record.specs.Building.{Laid, Good, Next};
 ghost use Rattle.record.specs.Calls.{savedAnswer, saveCall, loadedAnswer, loadCall};
 use audit::Audited;
 use audit::audit_table;
@@ -142,7 +142,7 @@ pub fn save(t: &[u32], out: &mut [u8]) -> Saved
     Saved::Refused(why)
 }
 
-// Takes the seats of the m removals out, in order.
+// Takes the seats of the removals out, in order.
 fn take_all(t: &mut [u32], s: &[u8], a: usize, n: usize)
     requires { ⌜ (Good (now s) a n) × (Laid (now s) (now t) a (a - n) 0) ⌝ }
     ensures { λ _. ⌜ Laid (now (s .entry)) (now (t .exit)) a (a - n) (a - n) ⌝ }
@@ -158,7 +158,7 @@ fn take_all(t: &mut [u32], s: &[u8], a: usize, n: usize)
 
 // The server of seat b, the j-th in use, or none. Answers the seats in use up to b.
 fn put_server(t: &mut [u32], s: &[u8], a: usize, m: usize, b: Seat, j: usize) -> usize
-    requires { ⌜ (Shape (now t) a) × (b .0 < a) × (j ≡ rank (tableFor a (now t) .bare .A) (b .0)) × (inAt m (rank (tableFor a (now t) .bare .A) (b .0 + 1)) ≤ length (now s)) ⌝ }
+    requires { ⌜ Next (now s) (now t) a m (b .0) j ⌝ }
     ensures next { λ r. ⌜ r ≡ rank (tableFor a (now (t .entry)) .bare .A) (b .0 + 1) ⌝ }
     ensures run { λ r. ⌜ now (t .exit) ≡ set (now (t .entry)) (base a 5 + b .0) (serverOf (now (s .entry)) m (tableFor a (now (t .entry)) .bare .A) (b .0)) ⌝ }
 {

@@ -16,7 +16,7 @@ returns c =
     let p = c .before .before in
     let o = p .before .before in
     let s = c .before .before .before .before .before .before .before .before .before in
-    let k = no-server (s .args .s .now) (tableFor (s .args .a) (s .args .t .now) .bare .A) (s .args .m) (s .args .b .0) (s .args .j) (s .pre .2) (λ z. o .if1 .taken (o .before .get-a .ensures ∙ z)) in
+    let k = no-server (s .args .s .now) (tableFor (s .args .a) (s .args .t .now) .bare .A) (s .args .m) (s .args .b .0) (s .args .j) (s .pre .isRank) (λ z. o .if1 .taken (o .before .get-a .ensures ∙ z)) in
     (k .0, p .set-s .ensures ∙ ap (set (s .args .t .now) (base (s .args .a) 5 + s .args .b .0)) (k .1))
 
 -- the seat is in use
@@ -26,13 +26,13 @@ used : (c : tie.Else1)
     (s .args .j + 1 ≡ rank A (s .args .b .0 + 1)) × (serverAt (s .args .s .now) (s .args .m) (s .args .j) ≡ serverOf (s .args .s .now) (s .args .m) A (s .args .b .0))
 used c =
     let s = c .before .before .before .before .before in
-    one-server (s .args .s .now) _ (s .args .m) (s .args .b .0) (s .args .j) (s .pre .2) (sym (c .before .get-a .ensures) ∙ c .if1 .left)
+    one-server (s .args .s .now) _ (s .args .m) (s .args .b .0) (s .args .j) (s .pre .isRank) (sym (c .before .get-a .ensures) ∙ c .if1 .left)
 
 server-at-requires : tie.Need-server-at-requires
 server-at-requires c κs =
     let o = c .before in
     let s = o .before .before .before .before .before in
-    rw (used o .0) (s .pre .3)
+    rw (used o .0) (s .pre .room)
 
 returns-2 : tie.Need-returns-2
 returns-2 c =
@@ -53,6 +53,6 @@ put-server-spec =
     returns
     server-at-requires
     (λ c κs. search needs)
-    (λ c. omega (arith, used (c .before .before .before .before .before) .0, c .before .before .before .before .before .before .before .before .before .before .pre .3))
+    (λ c. omega (arith, used (c .before .before .before .before .before) .0, c .before .before .before .before .before .before .before .before .before .before .pre .room))
     (λ c. search needs)
     returns-2)

@@ -23,12 +23,14 @@ put-server-requires c κs =
     let s = l .before .before .before in
     let g = s .pre .0 in
     let v = l .loop .inv .3 g in
-    let b = l .loop .b in (
-      laid-leads (s .args .s .now) (s .args .a) (s .args .n) g (s .args .a - s .args .n) (omega arith) (l .loop .t) (v .laid) .shape,
-      omega arith,
-      l .loop .inv .2 ∙ sym (same-rank (s .args .s .now) (s .args .a) (s .args .n) g (l .loop .t) b v (omega arith) b),
-      in-bytes (s .args .s .now) (s .args .a) (s .args .n) g (l .loop .t) b v (omega arith),
-    )
+    let b = l .loop .b in
+    let below : b < s .args .a = omega arith in
+    record {
+      shape = laid-leads (s .args .s .now) (s .args .a) (s .args .n) g (s .args .a - s .args .n) (omega arith) (l .loop .t) (v .laid) .shape;
+      below = below;
+      isRank = l .loop .inv .2 ∙ sym (same-rank (s .args .s .now) (s .args .a) (s .args .n) g (l .loop .t) b v below b);
+      room = in-bytes (s .args .s .now) (s .args .a) (s .args .n) g (l .loop .t) b v below;
+    }
 
 loop-again : tie.Need-loop-again Inv-loop μ-loop
 loop-again c =
