@@ -1,7 +1,7 @@
 -- The audit's answer, by what is known of the run.
 -- Assumes nothing.
 use mathlib.Core.Path.{_≡_, refl, sym, subst}
-use mathlib.Core.Bool.{Bool, true, false}
+use mathlib.Core.Bool.{true, false}
 use mathlib.Core.List.{List, []}
 use Prim.Native.Nat.{ℕ, _<_, _≤_, _^_}
 use native.Mathlib.Omega.{arith}
@@ -15,20 +15,11 @@ use Rattle.rules.proofs.Words.{Legal, is-legal}
 use Rattle.parts.specs.Shape.{sizeOf, Shape}
 use Rattle.parts.specs.declared.Size.the-variants.{Seats}
 use Rattle.parts.proofs.Sized.{legal-seats, shaped}
-use Rattle.ids.proofs.Meaning.{true-or-false}
 use Rattle.sound.proofs.Sound.{sound?}
-use Rattle.audit.specs.Decides.{decided}
+use Rattle.rules.proofs.Decided.{true-or-false, yes-true, no-false}
 use Rattle.audit.specs.Pass.{Counted, AllPass}
 use Rattle.audit.proofs.Exact.{Pass, pass-sound, sound-pass}
 use Rattle.audit.specs.Audit.{isSound, auditCall}
-
-yes-true : {P : Type 0} (d : Dec P) → P → decided d ≡ true
-yes-true (yes p) q = refl
-yes-true (no n) q = absurd (n q)
-
-no-false : {P : Type 0} (d : Dec P) → (P → ⊥) → decided d ≡ false
-no-false (yes p) n = absurd (n p)
-no-false (no m) n = refl
 
 module _ (w : List ℕ) where
   pub is-sound : Sound w → isSound w ≡ true

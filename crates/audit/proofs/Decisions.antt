@@ -1,26 +1,17 @@
 -- Decisions of statements that are told in parts.
 -- Assumes nothing.
-use mathlib.Core.Path.{_≡_, refl, _∙_}
+use mathlib.Core.Path.{_≡_, _∙_}
 use mathlib.Core.Logic.{_≢_}
 use mathlib.Core.Bool.{Bool, true, false, _&&_}
-use Prim.Native.Nat.{ℕ, suc, _+_, _-_, _<_, _≤_, max}
+use Prim.Native.Nat.{ℕ, _+_, _-_, _<_, _≤_, max}
 use native.Mathlib.Omega.{arith}
 use borrow.Author.Count.{below-more}
-use native.Mathlib.Decide.{ℕ-discrete}
 use Rattle.rules.specs.Table.{_!_, Bare, Table}
-use Rattle.sound.specs.Test.{Owes, gone, stays, Cut, stood, moved}
+use Rattle.sound.specs.Test.{Owes, stays, Cut, stood, moved}
 use Rattle.sound.proofs.Audit.{owes-stays}
-use Rattle.audit.specs.Decides.{Decides}
+use Rattle.rules.specs.Decides.{Decides}
+use Rattle.rules.proofs.Decided.{decides-iff}
 use Rattle.audit.specs.Pass.{Stands, SeatPasses, Removed, RemovalPasses, AllPass}
-
--- what a test's answer says
-pub decides-true : {P : Type 0} (t : Bool) → t ≡ true → Decides t P → P
-decides-true true e p = p
-decides-true false e n = let z : _≡_ {A = ℕ} 0 1 = cc in absurd (omega arith)
-
-pub decides-false : {P : Type 0} (t : Bool) → t ≡ false → Decides t P → P → ⊥
-decides-false true e p = let z : _≡_ {A = ℕ} 0 1 = cc in absurd (omega arith)
-decides-false false e n = n
 
 -- the seat that stood last moved, if it is another
 has-moved : {T : Bare} {p b : ℕ} → Cut T p b → T .W ! p ≢ b → Owes T (T .W ! p) (T .L ! b)
@@ -34,10 +25,6 @@ moved-low (moved low under o) other = low
 pub moved-under : {T : Bare} {p b : ℕ} → Cut T p b → T .W ! p ≢ b → T .L ! b < p
 moved-under (stood e) other = absurd (other e)
 moved-under (moved low under o) other = under
-
-pub decides-iff : {P Q : Type 0} (r : Bool) → (P → Q) → (Q → P) → Decides r P → Decides r Q
-decides-iff true f g p = f p
-decides-iff false f g n = λ q. n (g q)
 
 -- a seat that leaves later than q was cut off, or never, owes q where it stands there
 pub owes-stands : (T : Bare) (x q : ℕ) (r : Bool) → T .A ! x < max q 1 → Decides r (Stands T x q) → Decides r (Owes T x q)

@@ -1,27 +1,18 @@
 -- What the audit's answer tells a call that asks it first: the same refusal, or a sound table.
 -- Assumes nothing.
-use mathlib.Core.Path.{_≡_, refl, sym, ap, _∙_}
+use mathlib.Core.Path.{_≡_, refl, sym, ap}
 use mathlib.Core.Bool.{Bool, true, false, not}
 use mathlib.Core.List.{List, [], _∷_}
 use Prim.Native.Nat.{ℕ}
-use native.Mathlib.Omega.{arith}
 use Rattle.rules.specs.Table.{legal}
 use Rattle.rules.specs.History.{Sound}
 use Rattle.rules.specs.Answers.{Answer, fine, refused, Outcome, refusedAt, Occasion, _⇒_, firstThat}
 use Rattle.rules.specs.declared.Refusal.{Refusal}
 use Rattle.rules.specs.declared.Refusal.the-variants.{Size, Damaged}
-use Rattle.rules.proofs.Numbers.{numberOf-positive}
+use Rattle.rules.proofs.Numbers.{not-fine}
 use Rattle.sound.proofs.Sound.{sound?}
-use Rattle.audit.specs.Decides.{decided}
+use Rattle.rules.proofs.Decided.{true-yes}
 use Rattle.audit.specs.Audit.{isSound, auditCall}
-
--- no refusal is fine
-not-fine : {P : Type 0} (r : Refusal) (vs : List ℕ) → refused r ≡ fine vs → P
-not-fine r vs e = absurd (omega (arith, numberOf-positive r, ap (λ (x : Answer). x .number) e))
-
-true-yes : {P : Type 0} (d : Dec P) → decided d ≡ true → P
-true-yes (yes p) e = p
-true-yes (no n) e = let z : _≡_ {A = ℕ} 0 1 = cc in absurd (omega arith)
 
 module _ (w : List ℕ) where
   abbrev first : Bool → Bool → Answer

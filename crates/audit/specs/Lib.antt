@@ -1,3 +1,2 @@
-pub mod Decides
 pub mod Pass
 pub mod Audit

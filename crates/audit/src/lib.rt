@@ -4,7 +4,7 @@ ghost use Prim.Native.Nat.{_<_, _≤_};
 ghost use lib.ListN.{length};
 ghost use Rattle.rules.specs.Table.{_!_, tableFor};
 ghost use Rattle.sound.specs.Test.{Owes};
-ghost use Rattle.audit.specs.Decides.{Decides};
+ghost use Rattle.rules.specs.Decides.{Decides};
 ghost use Rattle.audit.specs.Pass.{Counted, Stands, SeatPasses, Removed, RemovalPasses, AllPass};
 ghost use Rattle.audit.specs.Audit.{answerOf, auditCall};
 use ids::repeats_in;

@@ -1,25 +1,23 @@
 -- In a sound table each place that a change stores to is in the run.
 -- Assumes nothing.
-use mathlib.Core.Path.{_≡_, sym, ap, _∙_}
+use mathlib.Core.Path.{_≡_, sym, _∙_}
 use mathlib.Core.Bool.{true}
 use mathlib.Core.List.{List}
 use mathlib.Core.Logic.{_≢_}
-use Prim.Native.Nat.{ℕ, _-_, _<_, _≤_}
+use Prim.Native.Nat.{ℕ, _-_, _<_}
 use native.Mathlib.Omega.{arith}
 use native.Mathlib.Decide.{ℕ-discrete}
 use lib.ListN.{length, set}
 use lib.Seq.{getD-set-same, getD-set-other}
-use Rattle.rules.specs.Table.{_!_, Bare, Table, tableOf}
+use Rattle.rules.specs.Table.{_!_, Bare, tableOf}
 use Rattle.rules.specs.Changes.{lastOut}
-use Rattle.rules.specs.History.{Sound, Reached}
+use Rattle.rules.specs.History.{Sound}
 use Rattle.rules.specs.Ids.{occurs, placeOf}
-use Rattle.rules.proofs.Words.{Legal}
 use Rattle.sound.specs.Kept.{Kept}
 use Rattle.sound.specs.Test.{Test, Cut, stood, moved}
-use Rattle.sound.proofs.Reached.{Passes, passes, reached-kept, named-in-use}
+use Rattle.sound.proofs.Reached.{passes, reached-kept, named-in-use}
 use Rattle.sound.proofs.Sound.{sound-legal, sound-table}
 use Rattle.ids.proofs.Meaning.{placed}
-use Rattle.parts.specs.Shape.{Shape}
 use Rattle.changes.specs.Steps.{Leads, CanTake, CanSeat}
 
 -- the seat taken out last stood last, or what stood last took its place
@@ -47,12 +45,13 @@ can-seat T t room =
     let low = last-below T (lastOut T) c b in
     record { room = room; seat = b; last = low; place = place-below T (lastOut T) c room (t .shape .lenL) low }
 
-pub can-take : (T : Table) (b : ℕ) → Passes T → Kept (T .bare) → b < T .bare .seats → T .S ! b ≢ 0 → CanTake (T .bare) b
-can-take T b p k below named =
-    let s = k .seated b below (named-in-use p below named) in
+-- a seat in use stands in the line
+pub can-leave : {T : Bare} {b : ℕ} → Kept T → b < T .seats → T .A ! b ≡ 0 → CanTake T b
+can-leave {T} {b} k below in-use =
+    let s = k .seated b below in-use in
     let some = k .shape .some in
     let most = k .shape .most in
-    record { seat = below; some = some; most = most; place = omega arith; last = k .line (T .bare .used - 1) (omega arith) .0 }
+    record { seat = below; some = some; most = most; place = omega arith; last = k .line (T .used - 1) (omega arith) .0 }
 
 module _ (w : List ℕ) (s : Sound w) where
   pub long : 1 < length w
@@ -71,4 +70,5 @@ module _ (w : List ℕ) (s : Sound w) where
       let r = sound-table s in
       let p = passes r in
       let at = placed id (tableOf w .S) o in
-      can-take (tableOf w) _ p (reached-kept r) (omega (arith, at .0, p .ids .size)) (λ z. ne (sym (at .1) ∙ z))
+      let below : placeOf id (tableOf w .S) < w ! 0 = omega (arith, at .0, p .ids .size) in
+      can-leave (reached-kept r) below (named-in-use p below (λ z. ne (sym (at .1) ∙ z)))

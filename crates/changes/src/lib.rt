@@ -42,7 +42,7 @@ pub enum Changed {
 }
 
 // Taking out the seat b.
-fn take_out_seat(t: &mut [u32], a: usize, b: Seat)
+pub fn take_out_seat(t: &mut [u32], a: usize, b: Seat)
     requires { ⌜ (Leads (now t) a) × (CanTake (tableFor a (now t) .bare) (b .0)) ⌝ }
     ensures { λ _. ⌜ now (t .exit) ≡ words (takeOut (tableFor a (now (t .entry))) (b .0)) ⌝ }
 {

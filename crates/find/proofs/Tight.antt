@@ -3,15 +3,11 @@
 use mathlib.Core.Path.{_≡_, sym, ap, _∙_}
 use mathlib.Core.List.{List}
 use Prim.Native.Nat.{ℕ}
-use native.Mathlib.Omega.{arith}
 use Rattle.rules.specs.Answers.{Answer}
-use Rattle.rules.proofs.Numbers.{numberOf-injective, numberOf-positive}
+use Rattle.rules.proofs.Numbers.{not-fine, refused-injective}
 use Rattle.find.specs.declared.Lookup.{Lookup}
 use Rattle.find.specs.declared.Lookup.the-variants.{On, Refused}
 use Rattle.find.specs.Find.{answerOf, findCall}
-
-number-same : {x y : Answer} → x ≡ y → x .number ≡ y .number
-number-same e = ap (λ (a : Answer). a .number) e
 
 pub answerOf-injective : (r s : Lookup) → answerOf r ≡ answerOf s → r ≡ s
 answerOf-injective (On b x d) (On c y e) h =
@@ -20,9 +16,9 @@ answerOf-injective (On b x d) (On c y e) h =
     let server : x ≡ y = cc in
     let draws : d ≡ e = cc in
     λ i. On (record { 0 = seat i }) (server i) (draws i)
-answerOf-injective (On b x d) (Refused q) h = absurd (omega (arith, number-same h, numberOf-positive q))
-answerOf-injective (Refused p) (On c y e) h = absurd (omega (arith, number-same h, numberOf-positive p))
-answerOf-injective (Refused p) (Refused q) h = ap Refused (numberOf-injective p q (number-same h))
+answerOf-injective (On b x d) (Refused q) h = not-fine q _ (sym h)
+answerOf-injective (Refused p) (On c y e) h = not-fine p _ h
+answerOf-injective (Refused p) (Refused q) h = ap Refused (refused-injective p q h)
 
 -- no two results meet the promise on the same run and key
 pub one-result : (w : List ℕ) (key : ℕ) (r s : Lookup) → answerOf r ≡ findCall w key → answerOf s ≡ findCall w key → r ≡ s

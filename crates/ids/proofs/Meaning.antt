@@ -1,20 +1,17 @@
 -- What the tests of a list of ids say of each place of it.
 -- Assumes nothing.
-use mathlib.Core.Path.{_≡_, refl, sym, ap, _∙_}
+use mathlib.Core.Path.{_≡_, refl, sym}
 use mathlib.Core.Bool.{Bool, true, false, not, _&&_, _||_, cond}
 use mathlib.Core.List.{List, [], _∷_}
 use mathlib.Core.Logic.{_≢_}
-use Prim.Native.Nat.{ℕ, zero, suc, _<_, _≤_}
+use Prim.Native.Nat.{ℕ, zero, suc, _<_}
 use native.Mathlib.Omega.{arith}
 use lib.ListN.{length}
 use lib.Dec.{eqb}
 use borrow.Author.Tests.{eq-eqb, ne-eqb, eqb-true, eqb-false}
 use Rattle.rules.specs.Table.{_!_}
+use Rattle.rules.proofs.Decided.{true-or-false}
 use Rattle.rules.specs.Ids.{occurs, repeats, placeOf}
-
--- no Bool is both
-pub true-or-false : {P : Type 0} (t : Bool) → t ≡ true → t ≡ false → P
-true-or-false t p q = let z : _≡_ {A = ℕ} 0 1 = cc in absurd (omega arith)
 
 or-false : (p q : Bool) → (p || q) ≡ false → (p ≡ false) × (q ≡ false)
 or-false true q e = true-or-false true refl e

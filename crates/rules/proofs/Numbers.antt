@@ -5,7 +5,7 @@ use mathlib.Core.List.{List, [], _∷_}
 use Prim.Native.Nat.{ℕ, _<_}
 use native.Mathlib.Omega.{arith}
 use lib.ListN.{getD}
-use Rattle.rules.specs.Answers.{numberOf}
+use Rattle.rules.specs.Answers.{numberOf, Answer, fine, refused}
 use Rattle.rules.specs.declared.Refusal.{Refusal}
 use Rattle.rules.specs.declared.Refusal.the-variants.{Size, Count, Id, Twice, Damaged, Full, Absent, Last, Room, Form}
 
@@ -39,3 +39,13 @@ numberOf-positive Absent = omega arith
 numberOf-positive Last = omega arith
 numberOf-positive Room = omega arith
 numberOf-positive Form = omega arith
+
+-- so an answer says whether it refuses, and why
+number-same : {x y : Answer} → x ≡ y → x .number ≡ y .number
+number-same e = ap (λ (a : Answer). a .number) e
+
+pub not-fine : {P : Type 0} (r : Refusal) (vs : List ℕ) → refused r ≡ fine vs → P
+not-fine r vs e = absurd (omega (arith, numberOf-positive r, number-same e))
+
+pub refused-injective : (p q : Refusal) → refused p ≡ refused q → p ≡ q
+refused-injective p q e = numberOf-injective p q (number-same e)

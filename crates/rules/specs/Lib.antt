@@ -5,4 +5,5 @@ pub mod History
 pub mod Keys
 pub mod Ids
 pub mod Answers
+pub mod Decides
 pub mod Examples

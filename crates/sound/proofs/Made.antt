@@ -7,7 +7,7 @@ use Prim.Native.Nat.{ℕ, zero, suc, _-_, _<_, _≤_}
 use native.Mathlib.Omega.{arith}
 use native.Mathlib.Decide.{ℕ-discrete, decLt}
 use native.Mathlib.Numerals.{add-one}
-use lib.ListN.{length, replicate, length-append, length-replicate, List·getD-append}
+use lib.ListN.{length, replicate, length-append, length-replicate, length-set, List·getD-append}
 use lib.Seq.{ext-getD}
 use Rattle.rules.specs.Table.{_!_, Bare}
 use Rattle.rules.specs.Changes.{out, seat}
@@ -27,6 +27,14 @@ pub record After (a : ℕ) (rs : List ℕ) (k : ℕ) (T : Bare) : Type 0 where
 
 pub fewer-still : {a : ℕ} {rs : List ℕ} {k j : ℕ} → Takeable a rs k → j ≤ k → Takeable a rs j
 fewer-still t h = record { fewer = omega arith; below = λ i l. t .below i (omega arith); apart = λ i j l m. t .apart i j l (omega arith) }
+
+-- whatever rs has, each of them is one seat less in use
+pub after-counts : (a : ℕ) (rs : List ℕ) (k : ℕ) → (after a rs k .seats ≡ a) × (after a rs k .used ≡ a - k) × (length (after a rs k .A) ≡ a)
+unfolding after
+after-counts a rs zero = (refl, omega arith, length-replicate a 0)
+after-counts a rs (suc k) =
+    let d = after-counts a rs k in
+    (d .0, omega (arith, d .1), length-set (after a rs k .A) (rs ! k) (after a rs k .used - 1) ∙ d .2)
 
 -- the next of rs is in use
 module _ {a : ℕ} {rs : List ℕ} {k : ℕ} {T : Bare} (t : Takeable a rs (suc k)) (d : After a rs k T) where
@@ -59,6 +67,22 @@ pub after-is : (a : ℕ) (rs : List ℕ) (k : ℕ) → Takeable a rs k → After
 unfolding after
 after-is a rs zero t = record { seats = refl; used = omega arith; kept = kept-full a (omega arith); left = λ i h. absurd (omega arith) }
 after-is a rs (suc k) t = next t (after-is a rs k (fewer-still t (omega arith)))
+
+-- seats that leave one after the other, each in use when it leaves, are distinct
+pub takeable-each : (a : ℕ) (rs : List ℕ) (k : ℕ) → 1 ≤ a → ((i : ℕ) → i < k → Leaves (after a rs i) (rs ! i)) → Takeable a rs k
+takeable-each a rs zero some each = record { fewer = omega arith; below = λ i h. absurd (omega arith); apart = λ i j h l. absurd (omega arith) }
+takeable-each a rs (suc k) some each =
+    let t = takeable-each a rs k some (λ i h. each i (omega arith)) in
+    let d = after-is a rs k t in
+    let v = each k (omega arith) in
+    record {
+      fewer = omega arith;
+      below = λ i h. elim (ℕ-discrete i k) [ yes e ↦ rw e (omega arith) | no ne ↦ t .below i (omega arith) ];
+      apart = λ i j h l. elim (ℕ-discrete j k) [
+        | yes e ↦ rw e (λ q. omega (arith, ap (λ (x : ℕ). after a rs k .A ! x) (d .left i (omega arith) ∙ q), d .kept .order .taken i (omega arith) .1))
+        | no ne ↦ t .apart i j h (omega arith)
+      ];
+    }
 
 -- only the first k of rs matter
 pub after-first : (a : ℕ) (rs ss : List ℕ) (k : ℕ) → ((i : ℕ) → i < k → rs ! i ≡ ss ! i) → after a rs k ≡ after a ss k

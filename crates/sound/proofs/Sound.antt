@@ -78,7 +78,7 @@ ids? a A S =
     (all? (λ x. (y : ℕ) → y < a → S ! x ≢ 0 → S ! x ≡ S ! y → x ≡ y) (λ x. all? (λ y. S ! x ≢ 0 → S ! x ≡ S ! y → x ≡ y)
     (λ y. imp? (Dec·not (ℕ-discrete (S ! x) 0)) (imp? (ℕ-discrete (S ! x) (S ! y)) (ℕ-discrete x y))) a) a))))
 
-reached? : (T : Table) → Dec (Reached T)
+pub reached? : (T : Table) → Dec (Reached T)
 reached? T =
     map-dec
     (λ f. theorem T .1 (record { most = f .0; isMade = f .1 .0; ids = f .1 .1 }))

@@ -4,6 +4,7 @@ ghost use mathlib.Core.List.{[], _∷_};
 ghost use Rattle.audit.specs.Audit.{auditCall};
 ghost use Rattle.changes.specs.Calls.{openCall, seatCall, outCall};
 ghost use Rattle.find.specs.Find.{findCall};
+ghost use Rattle.record.specs.Calls.{saveCall, loadCall};
 ghost use Rattle.steamacorn.specs.Exports.{Told, Changes};
 use audit::Audited;
 use audit::audit_table;
@@ -14,6 +15,10 @@ use changes::seat_server;
 use changes::take_out;
 use find::Lookup;
 use find::find_server;
+use record::Loaded;
+use record::Saved;
+use record::load;
+use record::save;
 use rules::number;
 
 #[no_mangle]
@@ -83,5 +88,31 @@ pub extern "C" fn steamacorn_audit(table: &[u32]) -> u32
     match audit_table(table) {
         Audited::Sound => 0,
         Audited::Refused(why) => number(why),
+    }
+}
+
+#[no_mangle]
+pub extern "C" fn steamacorn_save(table: &[u32], record: &mut [u8], bytes: &mut usize) -> u32
+    ensures { λ r. ⌜ Changes (saveCall (now (table .entry)) (now («record» .entry))) r (now («record» .exit)) (now (bytes .entry) ∷ []) (now (bytes .exit) ∷ []) ⌝ }
+{
+    match save(table, record) {
+        Saved::Bytes(written) => {
+            *bytes = written;
+            0
+        }
+        Saved::Refused(why) => number(why),
+    }
+}
+
+#[no_mangle]
+pub extern "C" fn steamacorn_load(table: &mut [u32], record: &[u8], n: &mut u32) -> u32
+    ensures { λ r. ⌜ Changes (loadCall (now (table .entry)) (now («record» .entry))) r (now (table .exit)) (now (n .entry) ∷ []) (now (n .exit) ∷ []) ⌝ }
+{
+    match load(table, record) {
+        Loaded::Seats(used) => {
+            *n = used;
+            0
+        }
+        Loaded::Refused(why) => number(why),
     }
 }

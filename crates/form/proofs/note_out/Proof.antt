@@ -1,0 +1,59 @@
+-- `form::note_out` meets its contract: each way out has met, or missed, what `OutFits` names.
+-- Assumes nothing.
+use native.Mathlib.Omega.{arith}
+use borrow.Author.Needs.{needs}
+use mathlib.Core.Path.{ap, _∙_}
+use Prim.Native.Nat.{ℕ}
+use Rattle.rules.specs.Table.{_!_}
+use Rattle.rules.proofs.Decided.{decides-true, decides-false}
+use Rattle.saved.specs.Reader.{bareFrom}
+use Rattle.form.proofs.Notes.{noted-used, noted-out, leaves-next, leaves-below, noted-more}
+use Rattle.form.proofs.note_out.Statement.{statement}
+use Rattle.form.proofs.note_out.Tie as tie
+
+returns : tie.Need-returns
+returns c =
+    let b = c .before in
+    let s = c .before .before .before .before .before .before .before in
+    λ f. omega (arith, b .number-at .ensures, leaves-below (s .args .s .now) (s .args .a) (s .args .m) (s .pre .0) (s .args .i) (s .pre .1) (f .leaves))
+
+returns-2 : tie.Need-returns-2
+returns-2 c =
+    let b = c .before .before .before in
+    let s = c .before .before .before .before .before .before .before .before .before in
+    λ f. noted-out (s .pre .2) (b .number-at .result) (omega arith) (c .if3 .taken)
+    (ap (λ (x : ℕ). bareFrom (s .args .s .now) (s .args .a) (s .args .m) (s .args .i) .A ! x) (b .number-at .ensures) ∙ f .leaves .inUse)
+
+returns-3 : tie.Need-returns-3
+returns-3 c =
+    let b = c .before .before .before in
+    let marked = b .before in
+    let s = c .before .before .before .before .before .before .before .before .before in
+    let low = noted-used (s .pre .2) (b .number-at .result) (omega arith) (c .if3 .left) in (
+      record {
+        mark = decides-true _ (marked .if1 .taken) (marked .before .has-mark .ensures);
+        leaves = leaves-next (s .args .s .now) (s .args .a) (s .args .m) (s .pre .0) (s .args .i) (s .pre .1) (b .number-at .result) (b .number-at .ensures) (omega arith) low;
+      },
+      noted-more (s .args .s .now) (s .args .a) (s .args .m) (s .pre .0) (s .args .i) (s .pre .1) (s .args .gone .now) (b .number-at .result) (b .number-at .ensures) (omega arith) (s .pre .2),
+    )
+
+returns-4 : tie.Need-returns-4
+returns-4 c = λ f. decides-false _ (c .if1 .left) (c .before .has-mark .ensures) (f .mark)
+
+pub note-out-spec : {M : Type 1} → statement M
+note-out-spec =
+    tie.close
+    (tie.spec
+    (λ c. search needs)
+    (λ c. search needs)
+    (λ c κs. search needs)
+    (λ c. search needs)
+    (λ c κs. search needs)
+    (λ c. search needs)
+    returns
+    (λ c. search needs)
+    returns-2
+    (λ c. search needs)
+    (λ c. search needs)
+    returns-3
+    returns-4)

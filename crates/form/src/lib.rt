@@ -1,0 +1,194 @@
+// Whether bytes are a record, told by a read that never writes.
+ghost use mathlib.Core.Path.{_≡_};
+ghost use Prim.Native.Nat.{_+_, _*_, _-_, _<_, _≤_};
+ghost use lib.ListN.{length, replicate};
+ghost use Rattle.rules.specs.Table.{mostSeats};
+ghost use Rattle.rules.specs.Decides.{Decides};
+ghost use Rattle.saved.specs.Reader.{rank, inAt, serverAt, bareFrom};
+ghost use Rattle.saved.specs.Fits.{HeadFits, InFits, AllIn, New, AllNew, BodyFits};
+ghost use Rattle.form.specs.Form.{formOf};
+ghost use Rattle.form.specs.Tests.{HeadTold, Noted, Leaving, OutTold, OutsTold};
+use fields::FIELD;
+use fields::HEAD;
+use fields::HEAD_MARK;
+use fields::IN;
+use fields::IN_MARK;
+use fields::MARK;
+use fields::OUT;
+use fields::OUT_MARK;
+use fields::SECOND;
+use fields::SERVER;
+use fields::has_mark;
+use fields::number_at;
+use parts::MOST_SEATS;
+
+// a and N of a record's table, or no record.
+pub enum Form {
+    Of(usize, usize),
+    Bad,
+}
+
+// The head, and whether the bytes are as many as it says.
+fn head_of(s: &[u8]) -> Form
+    ensures { λ r. ⌜ HeadTold (now (s .entry)) r ⌝ }
+{
+    if s.len() < HEAD {
+        return Form::Bad;
+    }
+    if has_mark(s, 0, &HEAD_MARK) {
+        let a = number_at(s, MARK, FIELD) as usize;
+        let n = number_at(s, SECOND, FIELD) as usize;
+        if MOST_SEATS < a {
+            return Form::Bad;
+        }
+        if n < 1 {
+            return Form::Bad;
+        }
+        if a < n {
+            return Form::Bad;
+        }
+        if s.len() != HEAD + OUT * (a - n) + IN * n {
+            return Form::Bad;
+        }
+        return Form::Of(a, n);
+    }
+    Form::Bad
+}
+
+// Record i of m removals: its mark, and a seat of the a that was not named before. The seat is noted.
+fn note_out(s: &[u8], a: usize, m: usize, i: usize, gone: &mut [u8]) -> bool
+    requires { ⌜ (Leaving (now s) a m) × (i < m) × (Noted (bareFrom (now s) a m i .A) (now gone) a) ⌝ }
+    ensures { λ r. ⌜ OutTold (now (s .entry)) a m i r (now (gone .exit)) ⌝ }
+{
+    let at = HEAD + OUT * i;
+    if has_mark(s, at, &OUT_MARK) {
+        let b = number_at(s, at + MARK, FIELD) as usize;
+        if a <= b {
+            return false;
+        }
+        if gone[b] != 0 {
+            return false;
+        }
+        gone[b] = 1;
+        return true;
+    }
+    false
+}
+
+// The m removals.
+fn note_outs(s: &[u8], a: usize, m: usize, gone: &mut [u8]) -> bool
+    requires { ⌜ (Leaving (now s) a m) × (now gone ≡ replicate mostSeats 0) ⌝ }
+    ensures { λ r. ⌜ OutsTold (now (s .entry)) a m r (now (gone .exit)) ⌝ }
+{
+    let mut i: usize = 0;
+    while i < m {
+        if note_out(s, a, m, i, gone) {
+            i += 1;
+        } else {
+            return false;
+        }
+    }
+    true
+}
+
+// A record of seat b, with a server.
+fn in_fits(s: &[u8], at: usize, b: usize) -> bool
+    requires { ⌜ at + 8 ≤ length (now s) ⌝ }
+    ensures { λ r. ⌜ Decides r (InFits (now (s .entry)) at b) ⌝ }
+{
+    if has_mark(s, at, &IN_MARK) {
+        if number_at(s, at + MARK, FIELD) as usize != b {
+            return false;
+        }
+        if number_at(s, at + SECOND, SERVER) == 0 {
+            return false;
+        }
+        return true;
+    }
+    false
+}
+
+// The records of the seats that were not noted, ascending, after m removals.
+fn ins_fit(s: &[u8], a: usize, m: usize, gone: &[u8]) -> bool
+    requires { ⌜ (a ≤ length (now gone)) × (inAt m (rank (now gone) a) ≤ length (now s)) ⌝ }
+    ensures { λ r. ⌜ Decides r (AllIn (now (s .entry)) m (now (gone .entry)) a) ⌝ }
+{
+    let mut j: usize = 0;
+    let mut b: usize = 0;
+    while b < a {
+        if gone[b] == 0 {
+            if in_fits(s, HEAD + OUT * m + IN * j, b) {
+                j += 1;
+            } else {
+                return false;
+            }
+        }
+        b += 1;
+    }
+    true
+}
+
+// The j-th server, after m removals.
+pub fn server_at(s: &[u8], m: usize, j: usize) -> u32
+    requires { ⌜ inAt m (j + 1) ≤ length (now s) ⌝ }
+    ensures { λ r. ⌜ r ≡ serverAt (now (s .entry)) m j ⌝ }
+{
+    number_at(s, HEAD + OUT * m + IN * j + SECOND, SERVER)
+}
+
+// Is the j-th server none of those before it? All are looked at, with no way out of the loop.
+fn is_new(s: &[u8], m: usize, j: usize) -> bool
+    requires { ⌜ inAt m (j + 1) ≤ length (now s) ⌝ }
+    ensures { λ r. ⌜ Decides r (New (now (s .entry)) m j) ⌝ }
+{
+    let id = server_at(s, m, j);
+    let mut ok = true;
+    let mut i: usize = 0;
+    while i < j {
+        ok = ok & (server_at(s, m, i) != id);
+        i += 1;
+    }
+    ok
+}
+
+// The one search among pairs: are the n servers all different?
+fn all_new(s: &[u8], m: usize, n: usize) -> bool
+    requires { ⌜ inAt m n ≤ length (now s) ⌝ }
+    ensures { λ r. ⌜ Decides r (AllNew (now (s .entry)) m n) ⌝ }
+{
+    let mut ok = true;
+    let mut j: usize = 0;
+    while j < n {
+        ok = ok & is_new(s, m, j);
+        j += 1;
+    }
+    ok
+}
+
+// All after a good head.
+fn body_fits(s: &[u8], a: usize, n: usize) -> bool
+    requires { ⌜ HeadFits (now s) a n ⌝ }
+    ensures { λ r. ⌜ Decides r (BodyFits (now (s .entry)) a n) ⌝ }
+{
+    let m = a - n;
+    let mut gone = [0u8; MOST_SEATS];
+    if note_outs(s, a, m, &mut gone) {
+        if ins_fit(s, a, m, &gone) {
+            return all_new(s, m, n);
+        }
+    }
+    false
+}
+
+// The seats of the table whose record the bytes are, and those in use.
+pub fn form_of(s: &[u8]) -> Form
+    ensures { λ r. ⌜ r ≡ formOf (now (s .entry)) ⌝ }
+{
+    let Form::Of(a, n) = head_of(s) else {
+        return Form::Bad;
+    };
+    if body_fits(s, a, n) {
+        return Form::Of(a, n);
+    }
+    Form::Bad
+}

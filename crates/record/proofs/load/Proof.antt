@@ -1,0 +1,47 @@
+-- `record::load` meets its contract: each way out is one of `Loads`.
+-- Assumes nothing.
+use native.Mathlib.Omega.{arith}
+use borrow.Author.Needs.{needs}
+use mathlib.Core.Path.{_≡_, sym, _∙_}
+use Rattle.form.specs.declared.Form.the-variants.{Of}
+use Rattle.form.specs.Form.{formOf}
+use Rattle.record.proofs.Loads.{load-form, good, load-size, load-done}
+use Rattle.record.proofs.load.Statement.{statement}
+use Rattle.record.proofs.load.Tie as tie
+
+returns : tie.Need-returns
+returns c = load-form _ _ (sym (c .before .before .form-of .ensures) ∙ c .enum-told .given .1)
+
+-- the form that was read
+form : (c : tie.After-a) → formOf (c .before .before .before .before .before .args .s .now) ≡ Of (c .a .given .0 .0) (c .a .given .0 .1 .0)
+form c = sym (c .before .before .form-of .ensures) ∙ c .a .given .1
+
+returns-2 : tie.Need-returns-2
+returns-2 c = load-size _ _ _ (form (c .before .before)) _ (c .if1 .taken)
+
+build-requires : tie.Need-build-requires
+build-requires c κs =
+    let g = good _ _ _ (form (c .before .before .before)) in
+    (g, record { size = c .before .if1 .left; most = g .head .most })
+
+returns-3 : tie.Need-returns-3
+returns-3 c =
+    let b = c .before .before in
+    let f = b .before .before .before .before in
+    load-done _ _ _ (form f) _ (b .build .last .0) (b .before .before .if1 .left) (b .build .ensures)
+
+pub load-spec : {M : Type 1} → statement M
+load-spec =
+    tie.close
+    (tie.spec
+    (λ c κs. search needs)
+    (λ c. search needs)
+    (λ c. search needs)
+    returns
+    (λ c. omega (arith, good _ _ _ (form (c .before)) .head .most))
+    (λ c. omega (arith, good _ _ _ (form (c .before)) .head .most))
+    returns-2
+    build-requires
+    (λ c. let g = good _ _ _ (form (c .before .before .before .before .before .before)) in omega (arith, g .head .fit, g .head .most))
+    (λ c. search needs)
+    returns-3)

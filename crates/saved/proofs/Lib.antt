@@ -1,0 +1,11 @@
+pub mod Worked
+-- Laws of fields, of records one after the other, and of the seats in use.
+pub mod Fields
+pub mod Each
+pub mod Ranks
+-- What stands in a record, and that it reads back.
+pub mod Holds
+pub mod Length
+pub mod Back
+pub mod OneRecord
+pub mod Exact

@@ -1,0 +1,112 @@
+-- How many seats are in use below a seat. Taking one seat out makes one less of them, so after k removals a - k of a are left.
+-- Assumes nothing.
+use mathlib.Core.Path.{_≡_, refl, sym, ap, ap₂, _∙_}
+use mathlib.Core.Bool.{Bool, true, false, cond}
+use mathlib.Core.List.{List, []}
+use mathlib.Core.Logic.{_≢_}
+use Prim.Native.Nat.{ℕ, zero, suc, _+_, _*_, _-_, _<_, _≤_}
+use native.Mathlib.Omega.{arith}
+use native.Mathlib.Decide.{ℕ-discrete, decLt}
+use lib.ListN.{length, set, replicate, length-append}
+use lib.Seq.{getD-set-same, getD-set-other}
+use lib.Dec.{eqb}
+use borrow.Author.Tests.{eq-eqb, ne-eqb}
+use Rattle.rules.specs.Table.{_!_, Bare, Table}
+use Rattle.rules.proofs.Lists.{zeros-at}
+use Rattle.sound.specs.Form.{after, Takeable}
+use Rattle.sound.specs.Test.{Test}
+use Rattle.sound.proofs.Made.{after-is, fewer-still, next-leaves}
+use Rattle.sound.proofs.Audit.{R-takeable, as-made}
+use Rattle.saved.specs.Record.{field, inRecord, each, seatRecord}
+use Rattle.saved.specs.Reader.{rank}
+
+module _ (A : List ℕ) (b : ℕ) where
+  pub rank-used : A ! b ≡ 0 → rank A (suc b) ≡ suc (rank A b)
+  rank-used z = rw (eq-eqb (A ! b) 0 z) (omega arith)
+
+  pub rank-out : A ! b ≢ 0 → rank A (suc b) ≡ rank A b
+  rank-out ne = rw (ne-eqb (A ! b) 0 ne) (omega arith)
+
+pub rank-same : (A F : List ℕ) (n : ℕ) → ((x : ℕ) → x < n → eqb (A ! x) 0 ≡ eqb (F ! x) 0) → rank A n ≡ rank F n
+rank-same A F zero h = refl
+rank-same A F (suc n) h = ap₂ (λ (r : ℕ) (t : Bool). r + cond t 1 0) (rank-same A F n (λ x l. h x (omega arith))) (h n (omega arith))
+
+rank-grows : (A : List ℕ) (n : ℕ) → rank A n ≤ rank A (suc n)
+rank-grows A n = omega arith
+
+pub rank-mono : (A : List ℕ) (n b : ℕ) → b ≤ n → rank A b ≤ rank A n
+rank-mono A zero b h = let e : b ≡ 0 = omega arith in rw e (omega arith)
+rank-mono A (suc n) b h = elim (ℕ-discrete b (suc n)) [
+  | yes e ↦ rw e (omega arith)
+  | no ne ↦ omega (arith, rank-mono A n b (omega arith), rank-grows A n)
+]
+
+-- a seat in use counts for every seat after it
+pub rank-below : (A : List ℕ) (n b : ℕ) → b < n → A ! b ≡ 0 → rank A b < rank A n
+rank-below A zero b h z = absurd (omega arith)
+rank-below A (suc n) b h z = elim (ℕ-discrete b n) [
+  | yes e ↦ let u = rank-used A b z in rw (← e) (omega arith)
+  | no ne ↦ omega (arith, rank-below A n b (omega arith) z, rank-grows A n)
+]
+
+-- so two seats in use with as many below them are the same
+pub rank-injective : (A : List ℕ) (x y : ℕ) → A ! x ≡ 0 → A ! y ≡ 0 → rank A x ≡ rank A y → x ≡ y
+rank-injective A x y zx zy e = elim (decLt x y) [
+  | yes l ↦ absurd (omega (arith, rank-below A y x l zx))
+  | no l ↦ elim (decLt y x) [
+    | yes m ↦ absurd (omega (arith, rank-below A x y m zy))
+    | no m ↦ omega arith
+  ]
+]
+
+-- and each number below the whole is that of some seat in use
+pub rank-onto : (A : List ℕ) (n j : ℕ) → j < rank A n → (x : ℕ) × (x < n) × (A ! x ≡ 0) × (rank A x ≡ j)
+rank-onto A zero j h = absurd (omega arith)
+rank-onto A (suc n) j h = elim (ℕ-discrete (A ! n) 0) [
+  | yes z ↦ elim (ℕ-discrete (rank A n) j) [
+    | yes e ↦ (n, omega arith, z, e)
+    | no ne ↦ let u = rank-used A n z in let (x, l, z′, r) = rank-onto A n j (omega arith) in (x, omega arith, z′, r)
+  ]
+  | no ne ↦ let u = rank-out A n ne in let (x, l, z′, r) = rank-onto A n j (omega arith) in (x, omega arith, z′, r)
+]
+
+rank-full : (a n : ℕ) → rank (replicate a 0) n ≡ n
+rank-full a zero = refl
+rank-full a (suc n) = rank-used (replicate a 0) n (zeros-at a n) ∙ ap suc (rank-full a n)
+
+module _ (A : List ℕ) (b v : ℕ) (h : b < length A) (z : A ! b ≡ 0) (ne : v ≢ 0) where
+  rank-before : (n : ℕ) → n ≤ b → rank (set A b v) n ≡ rank A n
+  rank-before n l = rank-same (set A b v) A n (λ x k. ap (λ (y : ℕ). eqb y 0) (getD-set-other A b x v 0 (omega arith)))
+
+  rank-set : (n : ℕ) → b < n → suc (rank (set A b v) n) ≡ rank A n
+  rank-set zero l = absurd (omega arith)
+  rank-set (suc n) l = elim (ℕ-discrete b n) [
+    | yes e ↦
+        ap suc (rank-out (set A b v) n (λ q. ne (sym (getD-set-same A b v 0 h) ∙ ap (λ (x : ℕ). set A b v ! x) e ∙ q)) ∙ rank-before n (omega arith))
+        ∙ sym (rank-used A n (ap (λ (x : ℕ). A ! x) (sym e) ∙ z))
+    | no other ↦ omega (arith, rank-set n (omega arith), ap {B = ℕ} (λ (y : ℕ). cond (eqb y 0) 1 0) (getD-set-other A b n v 0 (λ q. other (sym q))))
+  ]
+
+pub rank-after : (a : ℕ) (rs : List ℕ) (k : ℕ) → Takeable a rs k → rank (after a rs k .A) a ≡ a - k
+unfolding after
+rank-after a rs zero t = rank-full a a ∙ omega arith
+rank-after a rs (suc k) t =
+    let before : Takeable a rs k = fewer-still t (omega arith) in
+    let d = after-is a rs k before in
+    let v = next-leaves t d in
+    let one = rank-set (after a rs k .A) (rs ! k) (after a rs k .used - 1) (omega arith) (v .inUse) (omega arith) a (omega arith) in
+    omega (arith, rank-after a rs k before)
+
+pub rank-all : (T : Bare) → Test T → rank (T .A) (T .seats) ≡ T .used
+rank-all T t =
+    ap (λ (F : Bare). rank (F .A) (T .seats)) (as-made T t)
+    ∙ rank-after (T .seats) (T .R) (T .seats - T .used) (R-takeable T t)
+    ∙ omega (arith, t .shape .most)
+
+pub length-seats : (T : Table) (b : ℕ) → length (each (seatRecord T) b) ≡ 8 * rank (T .bare .A) b
+length-seats T zero = refl
+length-seats T (suc b) = length-append (each (seatRecord T) b) (seatRecord T b) ∙ omega (arith, length-seats T b, one (eqb (T .bare .A ! b) 0))
+  where
+    one : (t : Bool) → length (cond t (inRecord field b (T .S ! b)) []) ≡ 8 * cond t 1 0
+    one true = refl
+    one false = refl

@@ -1,0 +1,25 @@
+-- `steamacorn::steamacorn_load` meets its contract: it tells what the call answered.
+-- Assumes nothing.
+use borrow.Author.Needs.{needs}
+use mathlib.Core.Path.{sym, ap, _∙_}
+use Rattle.changes.specs.Calls.{outcome}
+use Rattle.record.specs.declared.Loaded.{Loaded}
+use Rattle.record.specs.Calls.{loadedAnswer}
+use Rattle.steamacorn.proofs.Tell.{leaves-fine, leaves-refused}
+use Rattle.steamacorn.proofs.steamacorn_load.Statement.{statement}
+use Rattle.steamacorn.proofs.steamacorn_load.Tie as tie
+
+returns : tie.Need-returns
+returns c =
+    let k = c .before in
+    let r = c .before .before .before .before .before in
+    leaves-fine _ _ (r .load .last .0) _ (ap (λ (x : Loaded). outcome (loadedAnswer x) (r .load .last .0)) (sym (k .used .given .1)) ∙ r .load .ensures)
+
+returns-2 : tie.Need-returns-2
+returns-2 c =
+    let k = c .before .before in
+    let r = c .before .before .before .before .before .before in
+    leaves-refused _ (k .why .given .0 .0) _ (r .load .last .0) _ (ap (λ (x : Loaded). outcome (loadedAnswer x) (r .load .last .0)) (sym (k .why .given .1)) ∙ r .load .ensures) (c .number .ensures)
+
+pub steamacorn-load-spec : {M : Type 1} → statement M
+steamacorn-load-spec = tie.close (tie.spec (λ c κs. search needs) (λ c. search needs) (λ c. search needs) (λ c κs. search needs) (λ c. search needs) returns (λ c. search needs) returns-2)
