@@ -2,3 +2,4 @@ pub mod Stores
 pub mod Ready
 pub mod Told
 pub mod Accepted
+pub mod Tight

@@ -1,11 +1,12 @@
 -- The promises of `save` and `load` leave one outcome: an answer's number and values say which result it is, and the rest is given.
 -- Assumes nothing.
-use mathlib.Core.Path.{_≡_, sym, ap, _∙_}
+use mathlib.Core.Path.{_≡_, sym, ap}
 use mathlib.Core.List.{List}
 use Prim.Native.Nat.{ℕ}
-use Rattle.rules.specs.Answers.{Answer, Outcome}
+use Rattle.rules.specs.Answers.{Answer}
 use Rattle.rules.proofs.Numbers.{not-fine, refused-injective}
 use Rattle.changes.specs.Calls.{outcome}
+use Rattle.changes.proofs.Tight.{one-outcome}
 use Rattle.record.specs.declared.Saved.{Saved}
 use Rattle.record.specs.declared.Saved.the-variants as saved
 use Rattle.record.specs.declared.Loaded.{Loaded}
@@ -32,11 +33,7 @@ loadedAnswer-injective (loaded.Refused p) (loaded.Refused q) h = ap loaded.Refus
 
 -- no two results and outputs meet the promise of a save, nor two results and runs that of a load
 pub one-save : (w out : List ℕ) (r s : Saved) (o p : List ℕ) → outcome (savedAnswer r) o ≡ saveCall w out → outcome (savedAnswer s) p ≡ saveCall w out → (r ≡ s) × (o ≡ p)
-one-save w out r s o p hr hs =
-    let e = hr ∙ sym hs in
-    (savedAnswer-injective r s (ap (λ (x : Outcome). x .answer) e), ap (λ (x : Outcome). x .after) e)
+one-save w out = one-outcome savedAnswer savedAnswer-injective (saveCall w out)
 
 pub one-load : (w bytes : List ℕ) (r s : Loaded) (o p : List ℕ) → outcome (loadedAnswer r) o ≡ loadCall w bytes → outcome (loadedAnswer s) p ≡ loadCall w bytes → (r ≡ s) × (o ≡ p)
-one-load w bytes r s o p hr hs =
-    let e = hr ∙ sym hs in
-    (loadedAnswer-injective r s (ap (λ (x : Outcome). x .answer) e), ap (λ (x : Outcome). x .after) e)
+one-load w bytes = one-outcome loadedAnswer loadedAnswer-injective (loadCall w bytes)

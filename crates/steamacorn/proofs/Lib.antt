@@ -1,1 +1,2 @@
 pub mod Tell
+pub mod Tight

@@ -127,3 +127,9 @@ pub written-counts : {text before after : List ℕ} {r : ℕ} → Written text r
 written-counts {text} {before} {after} {r} w =
     let h : r ≤ length after = omega (arith, w .count, ap length (w .bytes), length-append text (drop r before)) in
     (h, sym (length-take-le r after h))
+
+-- the promise of `run` leaves one outcome
+pub one-written : {text before : List ℕ} (r s : ℕ) (after other : List ℕ) → Written text r before after → Written text s before other → (r ≡ s) × (after ≡ other)
+one-written {text} {before} r s after other w v =
+    let same : r ≡ s = w .count ∙ sym (v .count) in
+    (same, w .bytes ∙ ap (λ (n : ℕ). text ++ drop n before) same ∙ sym (v .bytes))
