@@ -1,3 +1,4 @@
 pub mod Stores
 pub mod Ready
 pub mod Told
+pub mod Accepted

@@ -7,7 +7,7 @@ use mathlib.Core.List.{List}
 use Prim.Native.Nat.{ℕ, _-_, _<_}
 use native.Mathlib.Omega.{arith}
 use native.Mathlib.Decide.{ℕ-discrete}
-use lib.Seq.{getD-take, getD-set-same}
+use lib.Seq.{getD-take}
 use lib.Dec.{eqb}
 use borrow.Author.Tests.{eq-eqb, ne-eqb}
 use Rattle.rules.specs.Table.{_!_, Bare}
@@ -17,7 +17,7 @@ use Rattle.sound.specs.Kept.{Kept, Leaves}
 use Rattle.sound.specs.Test.{Test}
 use Rattle.rules.proofs.Lists.{differ}
 use Rattle.sound.proofs.Written.{Written, written}
-use Rattle.sound.proofs.Steps.{kept, out-passes, seat-passes, out-of-seat}
+use Rattle.sound.proofs.Steps.{kept, out-passes, seat-passes, seat-leaves, out-of-seat}
 use Rattle.lookups.proofs.Walks.{walkIn, gone, walk-out}
 use Rattle.lookups.proofs.Front.{front}
 use Rattle.lookups.proofs.Leads.{Leads, none, left, returned}
@@ -45,12 +45,6 @@ module _ (T : Bare) (b : ℕ) (g : Kept T) (v : Leaves T b) (w : Written T b) wh
   lines-back l f x q h =
       let off = w .A-off x (differ (T .A) (omega arith)) in
       sym (walk-out T b g v w (T .A ! x) (T .seats) q (gone g x (omega arith))) ∙ rw off at (f x q (rw off h))
-
--- the last seat out may leave again
-pub seat-leaves : (T : Bare) → Test T → T .used < T .seats → Leaves (seat T) (lastOut T)
-seat-leaves T t h =
-    let o = t .order .taken (T .seats - T .used - 1) (omega arith) in
-    record { below = o .0; inUse = getD-set-same (T .A) (lastOut T) 0 0 (omega (arith, t .shape .lenA)); two = omega (arith, t .shape .some) }
 
 pub lines-since : {T U : Bare} {ms : List Move} → Leads T ms U → Test T → (l : ℕ → List ℕ) → Lines T l → Lines U (λ x. since x (l x) T ms)
 lines-since none t l f = f

@@ -12,12 +12,11 @@ use Rattle.rules.specs.Changes.{out, seat, lastOut}
 use Rattle.rules.specs.Keys.{Found, on, Walk, at, lost, Looked, found, onward, lookup, arrayRule}
 use Rattle.sound.specs.Kept.{Kept, Leaves}
 use Rattle.sound.proofs.Written.{Written, written}
-use Rattle.sound.proofs.Steps.{kept, seat-passes, out-of-seat}
+use Rattle.sound.proofs.Steps.{kept, seat-passes, seat-leaves, out-of-seat}
 use Rattle.sound.proofs.Reached.{passes, leaves, reached-kept}
 use Rattle.lookups.specs.Stay.{OnlyOn, TakingOut, Seating}
 use Rattle.rules.proofs.Walks.{lookup-here}
 use Rattle.lookups.proofs.Walks.{walkIn, gone, length-out, walk-out}
-use Rattle.lookups.proofs.Since.{seat-leaves}
 
 abbrev Either : ℕ → Looked → Looked → Type 0
 Either b with without = (without ≡ with) ⊎ ((d : ℕ) × (with ≡ found (on b d)))

@@ -1,4 +1,6 @@
-pub mod Examples
+-- Theorems.
+pub mod WorkedExamples
+pub mod Undo
 -- Laws of lists, runs and parts.
 pub mod Lists
 pub mod Parts

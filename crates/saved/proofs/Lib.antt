@@ -1,4 +1,3 @@
-pub mod Worked
 -- Laws of fields, of records one after the other, and of the seats in use.
 pub mod Fields
 pub mod Each

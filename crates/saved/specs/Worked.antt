@@ -1,7 +1,8 @@
 -- Document 01, 'The saved record': seven seats with ids 11 to 17, after 17, 16 and 12 are taken out, give these 50 bytes.
-use mathlib.Core.Path.{_≡_}
+use mathlib.Core.Path.{_≡_, refl}
 use mathlib.Core.List.{List, [], _∷_}
 use Prim.Native.Nat.{ℕ}
+use Rattle.rules.specs.Changes.{opened}
 use Rattle.rules.specs.Examples.{after, h1}
 use Rattle.saved.specs.Record.{recordOf}
 
@@ -17,5 +18,7 @@ fifty =
     ∷ 0x49 ∷ 0x4E ∷ 0x00 ∷ 0x04 ∷ 0x00 ∷ 0x00 ∷ 0x00 ∷ 0x0F
     ∷ []
 
-abbrev pub Worked : Type 0
-Worked = recordOf (after 7 h1) ≡ fifty
+-- the definitions compute them
+pub worked : recordOf (after 7 h1) ≡ fifty
+unfolding opened recordOf
+worked = refl

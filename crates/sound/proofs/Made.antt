@@ -3,17 +3,18 @@
 use mathlib.Core.Path.{_≡_, refl, sym, ap, ap₂, _∙_}
 use mathlib.Core.List.{List, [], _∷_, _++_}
 use mathlib.Core.Logic.{_≢_, inl, inr}
-use Prim.Native.Nat.{ℕ, zero, suc, _+_, _-_, _<_, _≤_}
+use Prim.Native.Nat.{ℕ, zero, suc, _-_, _<_, _≤_}
 use native.Mathlib.Omega.{arith}
 use native.Mathlib.Decide.{ℕ-discrete, decLt}
 use native.Mathlib.Numerals.{add-one}
-use lib.ListN.{length, set, replicate, length-append, length-replicate, length-set, List·getD-append}
-use lib.Seq.{ext-getD, getD-set-same}
+use lib.ListN.{length, replicate, length-append, length-replicate, length-set, List·getD-append}
+use lib.Seq.{ext-getD}
 use Rattle.rules.specs.Table.{_!_, Bare}
 use Rattle.rules.specs.Changes.{out, seat}
+use Rattle.rules.proofs.Undo.{Stands, undo}
 use Rattle.sound.specs.Kept.{Kept, Shape, Leaves}
 use Rattle.sound.specs.Form.{after, made, Takeable}
-use Rattle.rules.proofs.Lists.{padded, keeps, set-back}
+use Rattle.rules.proofs.Lists.{padded}
 use Rattle.sound.proofs.Written.{written}
 use Rattle.sound.proofs.KeptOut.{kept-full, kept-out}
 
@@ -126,28 +127,17 @@ module _ (a : ℕ) (rs : List ℕ) (T : Bare) (d : After a rs (length rs) T) (fe
 pub theorem : (a : ℕ) (rs : List ℕ) → Takeable a rs (length rs) → Made a rs (made a rs)
 theorem a rs t = facts a rs (made a rs) (after-is a rs (length rs) t) (t .fewer)
 
--- seating puts back what taking out wrote
-pub undone : {T : Bare} {b : ℕ} → Kept T → Leaves T b → seat (out T b) ≡ T
-undone {T} {b} g v =
-    let n = T .used - 1 in
-    let p = T .L ! b in
-    let last = T .W ! n in
-    let at = T .seats - T .used in
+-- a seat that may leave stands in the line
+pub leaves-stands : {T : Bare} {b : ℕ} → Kept T → Leaves T b → Stands T b
+leaves-stands {T} {b} g v =
     let s = g .seated b (v .below) (v .inUse) in
-    let same-at : T .seats - n - 1 ≡ at = omega arith in
-    let is-b : set (T .R) at b ! at ≡ b = getD-set-same (T .R) at b 0 (omega arith) in
-    let L-back : set (set (T .L) last p) last n ≡ T .L = set-back (T .L) last p n (g .line n (omega arith) .2) in
-    let N-back : n + 1 ≡ T .used = omega arith in
-    rw (same-at, is-b, keeps (T .W) p n, L-back)
-    (λ i. record {
-      seats = T .seats;
-      used = N-back i;
-      A = set-back (T .A) b n 0 (v .inUse) i;
-      K = set-back (T .K) b last b (s .0) i;
-      W = set-back (T .W) p last b (s .2) i;
-      L = T .L;
-      R = set-back (T .R) at b 0 (g .order .rest at (omega arith)) i;
-    })
+    let l = g .line (T .used - 1) (omega arith) in
+    let sh = g .shape in
+    record { some = sh .some; most = sh .most; lenR = sh .lenR; inUse = v .inUse; ownK = s .0; place = s .2; last = l .2; rest = g .order .rest _ (omega arith) }
+
+-- so seating puts back what taking out wrote
+pub undone : {T : Bare} {b : ℕ} → Kept T → Leaves T b → seat (out T b) ≡ T
+undone g v = undo (leaves-stands g v)
 
 pub made-undo : (a : ℕ) (rs : List ℕ) (b : ℕ) → Takeable a (rs ++ (b ∷ [])) (suc (length rs)) → seat (made a (rs ++ (b ∷ []))) ≡ made a rs
 unfolding after

@@ -19,7 +19,7 @@ use Rattle.sound.specs.Kept.{Kept, Leaves}
 use Rattle.sound.specs.Form.{after, Ids, Form}
 use Rattle.sound.specs.Test.{Test}
 use Rattle.sound.proofs.Audit.{as-made, audit}
-use Rattle.sound.proofs.Steps.{kept, out-passes, seat-passes, out-of-seat}
+use Rattle.sound.proofs.Steps.{kept, out-passes, seat-passes, seat-leaves, out-of-seat}
 use Rattle.sound.proofs.Fresh.{fresh}
 use Rattle.sound.proofs.IdsSet.{ids-set}
 use Rattle.sound.proofs.Opened.{open-passes, open-ids}
@@ -46,7 +46,7 @@ changed-passes {T} (taking id b) p s =
       ids = ids-set (T .bare .seats) (T .bare .A) (T .S) b (T .bare .used - 1) 0 (p .ids) (s .below) (p .test .shape .lenA) (λ l. refl) (λ z. absurd (omega (arith, s .two))) (λ o. absurd (o refl));
     }
 changed-passes {T} (seating id b) p s =
-    let below = p .test .order .taken (T .bare .seats - T .bare .used - 1) (omega (arith, s .room)) .0 in
+    let below = seat-leaves (T .bare) (p .test) (s .room) .below in
     record {
       most = p .most;
       test = seat-passes (T .bare) (p .test) (s .room);

@@ -3,8 +3,9 @@
 use mathlib.Core.Path.{_≡_, sym, ap, _∙_, subst}
 use Prim.Native.Nat.{ℕ, suc, _-_, _<_}
 use native.Mathlib.Omega.{arith}
+use lib.Seq.{getD-set-same}
 use Rattle.rules.specs.Table.{Bare, _!_}
-use Rattle.rules.specs.Changes.{out, seat}
+use Rattle.rules.specs.Changes.{out, seat, lastOut}
 use Rattle.sound.specs.Kept.{Kept, Leaves}
 use Rattle.sound.specs.Form.{after, Takeable}
 use Rattle.sound.specs.Test.{Test}
@@ -17,6 +18,12 @@ kept T t = subst (λ (X : Bare). Kept X) (sym (as-made T t)) (after-is (T .seats
 
 pub out-passes : (T : Bare) (b : ℕ) → Test T → Leaves T b → Test (out T b)
 out-passes T b t v = test-out (kept T t) v t
+
+-- the last seat out may leave again
+pub seat-leaves : (T : Bare) → Test T → T .used < T .seats → Leaves (seat T) (lastOut T)
+seat-leaves T t h =
+    let o = t .order .taken (T .seats - T .used - 1) (omega arith) in
+    record { below = o .0; inUse = getD-set-same (T .A) (lastOut T) 0 0 (omega (arith, t .shape .lenA)); two = omega (arith, t .shape .some) }
 
 module _ (T : Bare) (t : Test T) (h : T .used < T .seats) where
   abbrev j : ℕ

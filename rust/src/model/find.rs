@@ -1,9 +1,11 @@
-//! Document 01, "Finding a key": the array rule, for any run of words.
+//! Document 01, "Finding a key". The rules are apart from the draws: `first` is the first seat drawn, and `pick(b, n)`
+//! the position drawn at seat b among n.
+use super::numbers::{DAMAGED, SIZE};
+use super::parts::Parts;
 use super::splitmix::output;
+use super::table::Table;
 
-pub const SIZE: u32 = 1;
-pub const DAMAGED: u32 = 5;
-
+/// What find answers.
 #[derive(Clone, Copy, Debug, PartialEq, Eq)]
 pub struct Found {
     pub seat: u32,
@@ -11,187 +13,159 @@ pub struct Found {
     pub draws: u32,
 }
 
-/// What find answers, or the number of its refusal.
-pub fn find(words: &[u32], key: u64) -> Result<Found, u32> {
-    let first = |a: u64| output(1, key) % a;
-    let pick = |b: u64, n: u64| output(b + 1, key) % n;
-    find_by(words, first, pick)
+/// hash(k) mod a
+pub fn first_of(k: u64, a: u32) -> u32 {
+    (output(1, k) % u64::from(a)) as u32
 }
 
-/// The same where `first(a)` is drawn first, and `pick(b, n)` at seat b with A\[b\] = n.
-fn find_by(
-    words: &[u32],
-    first: impl Fn(u64) -> u64,
-    pick: impl Fn(u64, u64) -> u64,
-) -> Result<Found, u32> {
-    let seats = seats(words).ok_or(SIZE)?;
-    let part = |letter: usize| -> Vec<u64> {
-        words[2 + letter * seats..][..seats]
-            .iter()
-            .map(|&word| word as u64)
-            .collect()
-    };
-    let (a, k, s) = (part(0), part(1), part(5));
+/// hash(b, k) mod n
+pub fn pick_of(k: u64, b: u32, n: u32) -> u32 {
+    (output(u64::from(b) + 1, k) % u64::from(n)) as u32
+}
 
-    // each seat drawn, the first one first
-    let mut drawn = vec![first(seats as u64)];
-    loop {
-        let b = drawn[drawn.len() - 1] as usize;
-        if a[b] == 0 {
-            break;
-        }
-        drawn.push(redraw(&a, &k, a[b], pick(b as u64, a[b])).ok_or(DAMAGED)?);
+/// By sets: a table with its lines.
+pub struct BySets {
+    table: Table,
+    lines: Vec<Option<Vec<u32>>>,
+}
+
+impl BySets {
+    pub fn new(table: Table) -> BySets {
+        let lines = table.lines();
+        BySets { table, lines }
     }
 
-    let seat = drawn[drawn.len() - 1];
-    match s[seat as usize] {
+    /// While seat b is out of use, the next seat is the one that stood at the drawn position of its line.
+    pub fn find(&self, first: u32, pick: impl Fn(u32, u32) -> u32) -> Found {
+        let mut b = first;
+        let mut draws = 1;
+        while let Some(line) = &self.lines[b as usize] {
+            b = line[pick(b, line.len() as u32) as usize];
+            draws += 1;
+        }
+        Found { seat: b, server: self.table.servers[b as usize], draws }
+    }
+}
+
+/// By the arrays, for any table of legal shape.
+pub fn by_arrays(parts: &Parts, first: u32, pick: impl Fn(u32, u32) -> u32) -> Result<Found, u32> {
+    let mut b = first;
+    let mut draws = 1;
+    while parts.A[b as usize] != 0 {
+        b = redraw(parts, b, &pick)?;
+        draws += 1;
+    }
+    match parts.S[b as usize] {
         0 => Err(DAMAGED),
-        server => Ok(Found {
-            seat: seat as u32,
-            server: server as u32,
-            draws: drawn.len() as u32,
-        }),
+        server => Ok(Found { seat: b, server, draws }),
     }
 }
 
-/// The a of a legal shape.
-fn seats(words: &[u32]) -> Option<usize> {
-    if words.len() < 2 {
-        return None;
-    }
-    let a = words[0] as usize;
-    if (1..=2048).contains(&a) && words.len() == 2 + 6 * a {
-        Some(a)
-    } else {
-        None
-    }
-}
-
-/// What h becomes: h, K\[h\], K\[K\[h\]\] and so on, K followed as often as there are seats, until one has an A below A\[b\]. None where
-/// one is no seat, or none has.
-fn redraw(a: &[u64], k: &[u64], a_of_b: u64, h: u64) -> Option<u64> {
-    let is_seat = |h: u64| h < a.len() as u64;
-    std::iter::successors(Some(h), |&h| {
-        if is_seat(h) {
-            Some(k[h as usize])
-        } else {
-            None
+/// While A[h] >= A[b], h becomes K[h]; it may do so a times.
+fn redraw(parts: &Parts, b: u32, pick: impl Fn(u32, u32) -> u32) -> Result<u32, u32> {
+    let below = |h: u32| if h >= parts.a { Err(DAMAGED) } else { Ok(h as usize) };
+    let bound = parts.A[b as usize];
+    let mut h = below(pick(b, bound))?;
+    let mut followed = 0;
+    while parts.A[h] >= bound {
+        if followed == parts.a {
+            return Err(DAMAGED);
         }
-    })
-    .take(1 + a.len())
-    .find(|&h| !is_seat(h) || a[h as usize] < a_of_b)
-    .filter(|&h| is_seat(h))
+        h = below(parts.K[h])?;
+        followed += 1;
+    }
+    Ok(h as u32)
+}
+
+/// A run of legal shape, made ready for many keys.
+pub enum Finder {
+    Sound(BySets),
+    Unsound(Parts),
+}
+
+impl Finder {
+    /// Sound tables are looked up by sets, others by the arrays.
+    pub fn new(words: &[u32]) -> Result<Finder, u32> {
+        let parts = Parts::of_words(words).ok_or(SIZE)?;
+        Ok(match Table::of_words(words) {
+            Ok(table) => Finder::Sound(BySets::new(table)),
+            Err(_) => Finder::Unsound(parts),
+        })
+    }
+
+    pub fn find(&self, k: u64) -> Result<Found, u32> {
+        let pick = |b, n| pick_of(k, b, n);
+        match self {
+            Finder::Sound(sets) => Ok(sets.find(first_of(k, sets.table.seats()), pick)),
+            Finder::Unsound(parts) => by_arrays(parts, first_of(k, parts.a), pick),
+        }
+    }
 }
 
 #[cfg(test)]
 mod tests {
-    use super::{find, find_by, Found, DAMAGED, SIZE};
+    use super::*;
 
-    fn run(n: u32, parts: [&[u32]; 6]) -> Vec<u32> {
-        let head = [parts[0].len() as u32, n];
-        [
-            &head, parts[0], parts[1], parts[2], parts[3], parts[4], parts[5],
-        ]
-        .concat()
-    }
-
-    fn picked(words: &[u32], first: u64, pick: u64) -> Result<Found, u32> {
-        find_by(words, |_| first, |_, _| pick)
-    }
-
-    fn on(seat: u32, server: u32, draws: u32) -> Result<Found, u32> {
-        Ok(Found {
-            seat,
-            server,
-            draws,
-        })
-    }
-
-    /// Seven seats with ids 11 to 17, after 17, 16, 12, 11 and 15 are taken out.
-    fn e3() -> Vec<u32> {
-        run(
-            2,
-            [
-                &[3, 4, 0, 0, 2, 5, 6],
-                &[3, 4, 2, 3, 2, 5, 6],
-                &[3, 2, 2, 3, 4, 5, 6],
-                &[0, 1, 1, 0, 1, 5, 6],
-                &[6, 5, 1, 0, 4, 0, 0],
-                &[0, 0, 13, 14, 0, 0, 0],
-            ],
-        )
+    /// The seat and the draws by both rules, on a table of a seats after these were taken out, with given picks.
+    fn both(a: u32, out: &[u32], first: u32, pick: u32) -> [(u32, u32); 2] {
+        let ids: Vec<u32> = (11..11 + a).collect();
+        let mut table = Table::opened(a, &ids);
+        out.iter().for_each(|b| assert_eq!(table.take_out(b + 11), Ok(*b)));
+        let parts = Parts::of_words(&table.words()).expect("legal shape");
+        let sets = BySets::new(table).find(first, |_, _| pick);
+        let arrays = by_arrays(&parts, first, |_, _| pick).expect("sound");
+        assert_eq!((sets.server, arrays.server), (sets.seat + 11, arrays.seat + 11));
+        [(sets.seat, sets.draws), (arrays.seat, arrays.draws)]
     }
 
     #[test]
     fn e7() {
-        assert_eq!(picked(&e3(), 5, 1), on(2, 13, 4));
+        assert_eq!(both(7, &[6, 5, 1, 0, 4], 5, 1), [(2, 4), (2, 4)]);
     }
 
     #[test]
     fn e9() {
-        assert_eq!(
-            picked(&run(1, [&[0], &[0], &[0], &[0], &[0], &[11]]), 0, 0),
-            on(0, 11, 1)
-        );
+        assert_eq!(both(1, &[], 0, 0), [(0, 1), (0, 1)]);
     }
 
     #[test]
     fn e10() {
-        assert_eq!(
-            picked(
-                &run(1, [&[1, 0], &[1, 1], &[1, 1], &[0, 0], &[0, 0], &[0, 12]]),
-                0,
-                0
-            ),
-            on(1, 12, 2)
-        );
+        assert_eq!(both(2, &[0], 0, 0), [(1, 2), (1, 2)]);
+    }
+
+    /// Three seats, of which 2 and then 1 were taken out.
+    fn three() -> Parts {
+        let mut parts = Parts::opened(3, &[11, 12, 13]);
+        parts.take_out(2);
+        parts.take_out(1);
+        parts
     }
 
     #[test]
-    fn a_walk_that_goes_round_is_damaged() {
-        let round = run(
-            1,
-            [
-                &[1, 1, 0],
-                &[1, 0, 2],
-                &[0; 3],
-                &[0; 3],
-                &[0; 3],
-                &[0, 0, 13],
-            ],
-        );
-        assert_eq!(picked(&round, 0, 0), Err(DAMAGED));
-        assert_eq!(picked(&round, 0, 2), on(2, 13, 2));
+    fn damaged_where_a_pick_or_a_successor_is_no_seat() {
+        let mut parts = three();
+        parts.A[2] = 9;
+        assert_eq!(by_arrays(&parts, 2, |_, _| 3), Err(DAMAGED));
+        parts.K[1] = 3;
+        assert_eq!(by_arrays(&parts, 1, |_, _| 1), Err(DAMAGED));
     }
 
     #[test]
-    fn a_seat_that_is_none_is_damaged() {
-        let far = run(1, [&[9, 0], &[2, 1], &[0; 2], &[0; 2], &[0; 2], &[0, 12]]);
-        assert_eq!(picked(&far, 0, 8), Err(DAMAGED));
-        assert_eq!(picked(&far, 0, 0), Err(DAMAGED));
-        assert_eq!(picked(&far, 0, 1), on(1, 12, 2));
+    fn damaged_where_a_redraw_would_follow_more_than_a_times() {
+        let mut parts = three();
+        parts.K = vec![0, 2, 1];
+        assert_eq!(by_arrays(&parts, 1, |_, _| 1), Err(DAMAGED));
+        // a chain that ends after a - 1 steps is followed
+        let mut parts = Parts::opened(4, &[11, 12, 13, 14]);
+        parts.A = vec![0, 5, 5, 5];
+        parts.K = vec![0, 2, 3, 0];
+        assert_eq!(by_arrays(&parts, 1, |_, _| 1), Ok(Found { seat: 0, server: 11, draws: 2 }));
     }
 
     #[test]
-    fn a_final_seat_without_a_server_is_damaged() {
-        assert_eq!(
-            picked(&run(1, [&[0], &[0], &[0], &[0], &[0], &[0]]), 0, 0),
-            Err(DAMAGED)
-        );
-    }
-
-    #[test]
-    fn size() {
-        assert_eq!(find(&[], 7), Err(SIZE));
-        assert_eq!(find(&[1], 7), Err(SIZE));
-        assert_eq!(find(&[0, 0], 7), Err(SIZE));
-        assert_eq!(find(&[1, 1, 0, 0, 0, 0, 0], 7), Err(SIZE));
-        assert_eq!(find(&[1, 1, 0, 0, 0, 0, 0, 11], 7), on(0, 11, 1));
-        assert_eq!(find(&[1, 1, 0, 0, 0, 0, 0, 11, 0], 7), Err(SIZE));
-        for (seats, number) in [(2048, DAMAGED), (2049, SIZE)] {
-            let mut words = vec![0; 2 + 6 * seats];
-            words[0] = seats as u32;
-            assert_eq!(find(&words, 7), Err(number));
-        }
+    fn damaged_where_the_final_seat_has_no_server() {
+        let mut parts = three();
+        parts.S[0] = 0;
+        assert_eq!(by_arrays(&parts, 0, |_, _| 0), Err(DAMAGED));
     }
 }

@@ -19,25 +19,15 @@ mod tests {
 
     #[test]
     fn published_outputs_from_1234567() {
-        let published = [
-            6457827717110365317,
-            3203168211198807973,
-            9817491932198370423,
-            4593380528125082431,
-            16408922859458223821,
-        ];
+        let published =
+            [6457827717110365317, 3203168211198807973, 9817491932198370423, 4593380528125082431, 16408922859458223821];
         assert_eq!(first_five(1234567), published);
     }
 
     #[test]
     fn published_outputs_from_0() {
-        let published = [
-            0xe220a8397b1dcdaf,
-            0x6e789e6aa1b965f4,
-            0x06c45d188009454f,
-            0xf88bb8a8724c81ec,
-            0x1b39896a51a8749b,
-        ];
+        let published =
+            [0xe220a8397b1dcdaf, 0x6e789e6aa1b965f4, 0x06c45d188009454f, 0xf88bb8a8724c81ec, 0x1b39896a51a8749b];
         assert_eq!(first_five(0), published);
     }
 }

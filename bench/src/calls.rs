@@ -1,0 +1,133 @@
+//! The three that are compared, called alike.
+use crate::safe;
+use steamacorn::ffi;
+
+/// Each call answers its values; a refusal ends the run, as all that is measured is accepted.
+pub trait Calls {
+    fn find(table: &[u32], key: u64) -> (u32, u32, u32);
+    fn out(table: &mut [u32], id: u32) -> u32;
+    fn seat(table: &mut [u32], id: u32) -> u32;
+    fn audit(table: &[u32]);
+    fn save(table: &[u32], record: &mut [u8]) -> usize;
+    fn load(table: &mut [u32], record: &[u8]) -> u32;
+}
+
+/// libsteamacorn.a
+pub struct Library;
+
+/// The same rules in C: baseline.c
+pub struct InC;
+
+/// The same rules in safe Rust
+pub struct InRust;
+
+extern "C" {
+    fn baseline_find(t: *const u32, words: usize, key: u64, seat: *mut u32, server: *mut u32, draws: *mut u32) -> u32;
+    fn baseline_bare_find(t: *const u32, n: usize, key: u64, seat: *mut u32, server: *mut u32, draws: *mut u32) -> u32;
+    fn baseline_out(table: *mut u32, words: usize, id: u32, seat: *mut u32) -> u32;
+    fn baseline_seat(table: *mut u32, words: usize, id: u32, seat: *mut u32) -> u32;
+    fn baseline_bare_out(table: *mut u32, words: usize, id: u32, seat: *mut u32) -> u32;
+    fn baseline_bare_seat(table: *mut u32, words: usize, id: u32, seat: *mut u32) -> u32;
+    fn baseline_audit(table: *const u32, words: usize) -> u32;
+    fn baseline_save(table: *const u32, words: usize, record: *mut u8, room: usize, bytes: *mut usize) -> u32;
+    fn baseline_load(table: *mut u32, words: usize, record: *const u8, bytes: usize, n: *mut u32) -> u32;
+}
+
+fn fine(number: u32) {
+    assert_eq!(number, 0, "all that is measured is accepted");
+}
+
+/// Calls over C's signatures: pointers and lengths are those of slices, which are valid and do not overlap.
+macro_rules! over_pointers {
+    ($who:ty, $find:path, $out:path, $seat:path, $audit:path, $save:path, $load:path) => {
+        impl Calls for $who {
+            fn find(table: &[u32], key: u64) -> (u32, u32, u32) {
+                let (mut seat, mut server, mut draws) = (0, 0, 0);
+                fine(unsafe { $find(table.as_ptr(), table.len(), key, &mut seat, &mut server, &mut draws) });
+                (seat, server, draws)
+            }
+
+            fn out(table: &mut [u32], id: u32) -> u32 {
+                let mut seat = 0;
+                fine(unsafe { $out(table.as_mut_ptr(), table.len(), id, &mut seat) });
+                seat
+            }
+
+            fn seat(table: &mut [u32], id: u32) -> u32 {
+                let mut seat = 0;
+                fine(unsafe { $seat(table.as_mut_ptr(), table.len(), id, &mut seat) });
+                seat
+            }
+
+            fn audit(table: &[u32]) {
+                fine(unsafe { $audit(table.as_ptr(), table.len()) });
+            }
+
+            fn save(table: &[u32], record: &mut [u8]) -> usize {
+                let mut bytes = 0;
+                fine(unsafe { $save(table.as_ptr(), table.len(), record.as_mut_ptr(), record.len(), &mut bytes) });
+                bytes
+            }
+
+            fn load(table: &mut [u32], record: &[u8]) -> u32 {
+                let mut n = 0;
+                fine(unsafe { $load(table.as_mut_ptr(), table.len(), record.as_ptr(), record.len(), &mut n) });
+                n
+            }
+        }
+    };
+}
+
+over_pointers!(
+    Library,
+    ffi::steamacorn_find,
+    ffi::steamacorn_out,
+    ffi::steamacorn_seat,
+    ffi::steamacorn_audit,
+    ffi::steamacorn_save,
+    ffi::steamacorn_load
+);
+
+over_pointers!(InC, baseline_find, baseline_out, baseline_seat, baseline_audit, baseline_save, baseline_load);
+
+impl Calls for InRust {
+    fn find(table: &[u32], key: u64) -> (u32, u32, u32) {
+        safe::find(table, key).expect("accepted")
+    }
+
+    fn out(table: &mut [u32], id: u32) -> u32 {
+        safe::out(table, id).expect("accepted")
+    }
+
+    fn seat(table: &mut [u32], id: u32) -> u32 {
+        safe::seat(table, id).expect("accepted")
+    }
+
+    fn audit(table: &[u32]) {
+        safe::audit(table).expect("accepted");
+    }
+
+    fn save(table: &[u32], record: &mut [u8]) -> usize {
+        safe::save(table, record).expect("accepted")
+    }
+
+    fn load(table: &mut [u32], record: &[u8]) -> u32 {
+        safe::load(table, record).expect("accepted")
+    }
+}
+
+/// A lookup in C that tests nothing: a damaged table can hold it for ever.
+pub fn bare_find(table: &[u32], key: u64) -> (u32, u32, u32) {
+    let (mut seat, mut server, mut draws) = (0, 0, 0);
+    fine(unsafe { baseline_bare_find(table.as_ptr(), table.len(), key, &mut seat, &mut server, &mut draws) });
+    (seat, server, draws)
+}
+
+/// A change in C that looks at nothing: the stores alone, of a table that is believed to be sound.
+pub fn bare_out_and_seat(table: &mut [u32], id: u32) -> u32 {
+    let (mut left, mut got) = (0, 0);
+    fine(unsafe { baseline_bare_out(table.as_mut_ptr(), table.len(), id, &mut left) });
+    fine(unsafe { baseline_bare_seat(table.as_mut_ptr(), table.len(), id, &mut got) });
+    assert_eq!(left, got);
+    got
+}

@@ -1,0 +1,8 @@
+-- Laws.
+pub mod Stack
+-- Theorems.
+pub mod Audit
+pub mod Undo
+pub mod Histories
+pub mod Keys
+pub mod Again

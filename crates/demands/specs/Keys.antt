@@ -1,0 +1,43 @@
+-- Demand 3: "And with definition 2's lookup: taking a server out moves only keys that were on its seat, and seating one moves keys only
+-- to its seat."
+use mathlib.Core.Path.{_≡_}
+use mathlib.Core.List.{List, [], _∷_}
+use mathlib.Core.Logic.{_≢_}
+use Prim.Native.Nat.{ℕ, _+_, _-_, _<_, _≤_, _^_}
+use Rattle.rules.specs.Table.{_!_}
+use Rattle.rules.specs.History.{Sound}
+use Rattle.rules.specs.Answers.{fine, done}
+use Rattle.changes.specs.Calls.{seatCall, outCall}
+use Rattle.find.specs.Find.{findCall}
+
+-- the seat, the server and the draws that find answers for the key k on the words w
+abbrev pub seatFor : List ℕ → ℕ → ℕ
+seatFor w k = findCall w k .values ! 0
+
+abbrev pub serverFor : List ℕ → ℕ → ℕ
+serverFor w k = findCall w k .values ! 1
+
+abbrev pub drawsFor : List ℕ → ℕ → ℕ
+drawsFor w k = findCall w k .values ! 2
+
+-- on sound words find answers all three for every key
+pub record Answered (w : List ℕ) (k : ℕ) : Type 0 where
+  pub isFine : findCall w k ≡ fine (seatFor w k ∷ serverFor w k ∷ drawsFor w k ∷ [])
+  pub seat : seatFor w k < w ! 0
+  pub server : serverFor w k ≢ 0
+  pub draws : drawsFor w k ≤ 1 + (w ! 0 - w ! 1)
+
+abbrev pub EveryKey : Type 0
+EveryKey = (w : List ℕ) (k : ℕ) → Sound w → Answered w k
+
+-- a server is taken out of seat b: every key that was on another seat keeps its whole answer
+abbrev pub TakingOut : Type 0
+TakingOut =
+    (w v : List ℕ) (id b k : ℕ) → Sound w → outCall w id ≡ done (b ∷ []) v
+    → seatFor w k ≢ b → findCall v k ≡ findCall w k
+
+-- an id is seated in seat b: every key that is then on another seat keeps its whole answer
+abbrev pub Seating : Type 0
+Seating =
+    (w v : List ℕ) (id b k : ℕ) → Sound w → id < 2 ^ 32 → seatCall w id ≡ done (b ∷ []) v
+    → seatFor v k ≢ b → findCall v k ≡ findCall w k

@@ -1,0 +1,5 @@
+pub mod Digits
+pub mod Got
+pub mod Listing
+pub mod Commands
+pub mod Long

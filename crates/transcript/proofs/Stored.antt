@@ -1,0 +1,54 @@
+-- Bytes stored one after the other.
+-- Assumes nothing.
+use mathlib.Core.Path.{_≡_, refl, sym, ap, ap₂, _∙_}
+use mathlib.Core.List.{List, [], _∷_, _++_}
+use Prim.Native.Nat.{ℕ, zero, suc, _+_, _-_, _<_, _≤_}
+use native.Mathlib.Nat.{add-zero, add-suc, suc-add}
+use native.Mathlib.Numerals.{add-one}
+use native.Mathlib.Omega.{arith}
+use lib.ListN.{length, take, drop, set, length-append}
+use lib.Seq.{sets, length-sets, sets-eq, take-suc, length-take-le, take-at, drop-at}
+use Rattle.rules.specs.Table.{_!_}
+use Rattle.transcript.specs.Replies.{Put}
+
+pub sets-append : (l xs ys : List ℕ) (i : ℕ) → sets (sets l i xs) (i + length xs) ys ≡ sets l i (xs ++ ys)
+sets-append l [] ys i = ap (λ (k : ℕ). sets l k ys) (add-zero i)
+sets-append l (x ∷ xs) ys i =
+    ap (λ (k : ℕ). sets (sets l i (x ∷ xs)) k ys) (add-suc i (length xs) ∙ sym (suc-add i (length xs)))
+    ∙ sets-append _ xs ys (suc i)
+
+-- one byte more of s
+pub sets-more : (l s : List ℕ) (at i : ℕ) → i < length s → set (sets l at (take i s)) (at + i) (s ! i) ≡ sets l at (take (i + 1) s)
+sets-more l s at i h =
+    let e : at + i ≡ at + length (take i s) = ap (λ (n : ℕ). at + n) (sym (length-take-le i s (omega arith))) in
+    ap (λ (n : ℕ). set (sets l at (take i s)) n (s ! i)) e
+    ∙ sets-append l (take i s) (s ! i ∷ []) at
+    ∙ ap (sets l at) (sym (take-suc s i 0 h) ∙ ap (λ (n : ℕ). take n s) (sym (add-one i)))
+
+-- a store, and a store behind it
+pub put-then : (l₀ l₁ l₂ : List ℕ) (at mid to : ℕ) (xs ys : List ℕ) → Put l₀ l₁ at mid xs → Put l₁ l₂ mid to ys → Put l₀ l₂ at to (xs ++ ys)
+put-then l₀ l₁ l₂ at mid to xs ys p q =
+    record {
+      bytes = q .bytes ∙ ap₂ (λ (l : List ℕ) (n : ℕ). sets l n ys) (p .bytes) (p .next) ∙ sets-append l₀ xs ys at;
+      next = q .next ∙ ap (λ (n : ℕ). n + length ys) (p .next) ∙ sym (ap (λ (n : ℕ). at + n) (length-append xs ys) ∙ omega arith);
+    }
+
+pub put-one : (l : List ℕ) (at b : ℕ) → Put l (set l at b) at (at + 1) (b ∷ [])
+put-one l at b = record { bytes = refl; next = refl }
+
+pub put-length : {l₀ l₁ : List ℕ} {at to : ℕ} {bs : List ℕ} → Put l₀ l₁ at to bs → length l₁ ≡ length l₀
+put-length {l₀} {at = at} {bs = bs} p = ap length (p .bytes) ∙ length-sets l₀ at bs
+
+-- what stands before the next place, and behind it
+module _ (l₀ l₁ : List ℕ) (at to : ℕ) (bs : List ℕ) (p : Put l₀ l₁ at to bs) (fits : at + length bs ≤ length l₀) where
+  split : l₁ ≡ (take at l₀ ++ bs) ++ drop to l₀
+  split = p .bytes ∙ sets-eq bs l₀ at fits ∙ ap (λ (n : ℕ). (take at l₀ ++ bs) ++ drop n l₀) (sym (p .next))
+
+  front : length (take at l₀ ++ bs) ≡ to
+  front = length-append (take at l₀) bs ∙ ap (λ (n : ℕ). n + length bs) (length-take-le at l₀ (omega arith)) ∙ sym (p .next)
+
+  pub put-front : take to l₁ ≡ take at l₀ ++ bs
+  put-front = ap (take to) split ∙ take-at (take at l₀ ++ bs) (drop to l₀) to front
+
+  pub put-behind : drop to l₁ ≡ drop to l₀
+  put-behind = ap (drop to) split ∙ drop-at (take at l₀ ++ bs) (drop to l₀) to front

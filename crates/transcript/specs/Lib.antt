@@ -1,0 +1,4 @@
+pub mod Printing
+pub mod Transcript
+pub mod Replies
+pub mod Opposites

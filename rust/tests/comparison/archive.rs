@@ -1,0 +1,147 @@
+//! The archive, compared with the model.
+use crate::compare::Same;
+use crate::library::{Answer, Library, UNWRITTEN};
+use crate::{changes, damage, edges, lookups, records};
+use std::sync::mpsc::{self, RecvTimeoutError};
+use std::thread;
+use std::time::Duration;
+use steamacorn::ffi::*;
+use steamacorn::Refusal;
+
+/// The archive's functions as C calls them. A value that no call wrote is told as it was.
+struct Archive;
+
+const WORD: u32 = UNWRITTEN as u32;
+
+// SAFETY, in all seven: pointers and lengths are those of slices, which are valid and do not overlap
+impl Library for Archive {
+    fn open(&self, table: &mut [u32], a: u32, ids: &mut [u32]) -> Answer {
+        let mut n = WORD;
+        let number =
+            unsafe { steamacorn_open(table.as_mut_ptr(), table.len(), a, ids.as_mut_ptr(), ids.len(), &mut n) };
+        Answer { number, ..Answer::fine(&[n.into()]) }
+    }
+
+    fn seat(&self, table: &mut [u32], id: u32) -> Answer {
+        let mut seat = WORD;
+        let number = unsafe { steamacorn_seat(table.as_mut_ptr(), table.len(), id, &mut seat) };
+        Answer { number, ..Answer::fine(&[seat.into()]) }
+    }
+
+    fn out(&self, table: &mut [u32], id: u32) -> Answer {
+        let mut seat = WORD;
+        let number = unsafe { steamacorn_out(table.as_mut_ptr(), table.len(), id, &mut seat) };
+        Answer { number, ..Answer::fine(&[seat.into()]) }
+    }
+
+    fn find(&self, table: &mut [u32], key: u64) -> Answer {
+        let (mut seat, mut server, mut draws) = (WORD, WORD, WORD);
+        let number =
+            unsafe { steamacorn_find(table.as_mut_ptr(), table.len(), key, &mut seat, &mut server, &mut draws) };
+        Answer { number, ..Answer::fine(&[seat.into(), server.into(), draws.into()]) }
+    }
+
+    fn audit(&self, table: &mut [u32]) -> Answer {
+        let number = unsafe { steamacorn_audit(table.as_mut_ptr(), table.len()) };
+        Answer { number, ..Answer::fine(&[]) }
+    }
+
+    fn save(&self, table: &mut [u32], record: &mut [u8]) -> Answer {
+        let mut bytes = UNWRITTEN as usize;
+        let number =
+            unsafe { steamacorn_save(table.as_mut_ptr(), table.len(), record.as_mut_ptr(), record.len(), &mut bytes) };
+        Answer { number, ..Answer::fine(&[bytes as u64]) }
+    }
+
+    fn load(&self, table: &mut [u32], record: &mut [u8]) -> Answer {
+        let mut n = WORD;
+        let number =
+            unsafe { steamacorn_load(table.as_mut_ptr(), table.len(), record.as_mut_ptr(), record.len(), &mut n) };
+        Answer { number, ..Answer::fine(&[n.into()]) }
+    }
+}
+
+/// The calls in Rust's habits.
+struct Wrapped;
+
+fn answer(result: Result<impl Into<u64>, Refusal>) -> Answer {
+    Answer::of(result.map_err(Refusal::number))
+}
+
+impl Library for Wrapped {
+    fn open(&self, table: &mut [u32], a: u32, ids: &mut [u32]) -> Answer {
+        answer(steamacorn::open(table, a, ids))
+    }
+
+    fn seat(&self, table: &mut [u32], id: u32) -> Answer {
+        answer(steamacorn::seat(table, id))
+    }
+
+    fn out(&self, table: &mut [u32], id: u32) -> Answer {
+        answer(steamacorn::take_out(table, id))
+    }
+
+    fn find(&self, table: &mut [u32], key: u64) -> Answer {
+        steamacorn::find(table, key).map_or_else(
+            |refusal| Answer::refused(refusal.number()),
+            |found| Answer::fine(&[found.seat.into(), found.server.into(), found.draws.into()]),
+        )
+    }
+
+    fn audit(&self, table: &mut [u32]) -> Answer {
+        let refused = |refusal: Refusal| Answer::refused(refusal.number());
+        steamacorn::audit(table).map_or_else(refused, |_| Answer::fine(&[]))
+    }
+
+    fn save(&self, table: &mut [u32], record: &mut [u8]) -> Answer {
+        answer(steamacorn::save(table, record).map(|bytes| bytes as u64))
+    }
+
+    fn load(&self, table: &mut [u32], record: &mut [u8]) -> Answer {
+        answer(steamacorn::load(table, record))
+    }
+}
+
+const LIMIT: Duration = Duration::from_secs(60);
+
+/// Compares on a thread of its own, so that a call that does not end is told as well.
+fn passes(name: &'static str, compare: fn(&dyn Library) -> Same<u64>, library: &'static (dyn Library + Sync)) {
+    let (sender, receiver) = mpsc::channel();
+    thread::spawn(move || sender.send(compare(library)));
+    match receiver.recv_timeout(LIMIT) {
+        Ok(Ok(calls)) => println!("{}: {} calls compared", name, calls),
+        Ok(Err(difference)) => panic!("{}: {}", name, difference),
+        Err(RecvTimeoutError::Timeout) => panic!("{}: no end within {:?}", name, LIMIT),
+        Err(RecvTimeoutError::Disconnected) => panic!("{}: the model is at fault, as told above", name),
+    }
+}
+
+#[test]
+fn the_archive_changes() {
+    passes("changes", changes::compare, &Archive);
+}
+
+#[test]
+fn the_archive_damage() {
+    passes("damage", damage::compare, &Archive);
+}
+
+#[test]
+fn the_archive_lookups() {
+    passes("lookups", lookups::compare, &Archive);
+}
+
+#[test]
+fn the_archive_records() {
+    passes("records", records::compare, &Archive);
+}
+
+#[test]
+fn the_archive_edges() {
+    passes("edges", edges::compare, &Archive);
+}
+
+#[test]
+fn the_calls_in_rusts_habits() {
+    passes("edges, in Rust's habits", edges::compare, &Wrapped);
+}

@@ -1,0 +1,149 @@
+//! One call to the library and the same call to the model: the answer, its values, and every lent word and byte, with
+//! guards on both sides of each run.
+use crate::library::{found, Answer, Library, Model};
+use std::fmt::Debug;
+use steamacorn::model::find::Finder;
+
+const GUARD: usize = 16;
+const GUARD_BYTE: u8 = 0xC3;
+
+/// A run in the midst of guards.
+pub struct Lent<T>(Vec<T>);
+
+impl<T: Copy + PartialEq + Debug + From<u8>> Lent<T> {
+    pub fn new(run: &[T]) -> Lent<T> {
+        let guard = vec![T::from(GUARD_BYTE); GUARD];
+        Lent([&guard, run, &guard].concat())
+    }
+
+    pub fn run(&mut self) -> &mut [T] {
+        let end = self.0.len() - GUARD;
+        &mut self.0[GUARD..end]
+    }
+
+    /// The guards are whole, and the run is this one.
+    fn holds(&self, run: &[T]) -> Result<(), String> {
+        let expected = Lent::new(run).0;
+        if self.0 == expected {
+            return Ok(());
+        }
+        let i = (0..expected.len()).find(|i| self.0[*i] != expected[*i]).expect("a difference");
+        let place = i as isize - GUARD as isize;
+        Err(format!("place {} of {}: {:?}, not {:?}", place, run.len(), self.0[i], expected[i]))
+    }
+}
+
+/// A comparison ends at the first difference, and tells it.
+pub type Same<T> = Result<T, String>;
+
+pub struct Comparison<'l> {
+    library: &'l dyn Library,
+    pub calls: u64,
+}
+
+impl<'l> Comparison<'l> {
+    pub fn new(library: &'l dyn Library) -> Comparison<'l> {
+        Comparison { library, calls: 0 }
+    }
+
+    /// One call, its memory being the table and a second run. Both are left as the model leaves them.
+    fn call<T: Copy + PartialEq + Debug + From<u8>>(
+        &mut self,
+        name: &str,
+        table: &mut [u32],
+        second: &mut [T],
+        call: impl Fn(&dyn Library, &mut [u32], &mut [T]) -> Answer,
+    ) -> Same<Answer> {
+        self.calls += 1;
+        let before = table.to_vec();
+        let (mut lent, mut lent_second) = (Lent::new(table), Lent::new(second));
+        let told = call(self.library, lent.run(), lent_second.run());
+        let expected = call(&Model, table, second);
+        let same = if told == expected {
+            lent.holds(table).and_then(|_| lent_second.holds(second))
+        } else {
+            Err(format!("{:?}, not {:?}", told, expected))
+        };
+        same.map(|_| expected).map_err(|difference| {
+            format!("{}: {} (table {:?}, second {:?})", name, difference, shown(&before), shown(second))
+        })
+    }
+
+    pub fn open(&mut self, table: &mut [u32], a: u32, ids: &[u32]) -> Same<Answer> {
+        self.call("open", table, &mut ids.to_vec(), |library, table, ids| library.open(table, a, ids))
+    }
+
+    pub fn seat(&mut self, table: &mut [u32], id: u32) -> Same<Answer> {
+        self.call::<u8>("seat", table, &mut [], |library, table, _| library.seat(table, id))
+    }
+
+    pub fn out(&mut self, table: &mut [u32], id: u32) -> Same<Answer> {
+        self.call::<u8>("out", table, &mut [], |library, table, _| library.out(table, id))
+    }
+
+    pub fn audit(&mut self, table: &[u32]) -> Same<Answer> {
+        self.call::<u8>("audit", &mut table.to_vec(), &mut [], |library, table, _| library.audit(table))
+    }
+
+    pub fn save(&mut self, table: &[u32], record: &mut [u8]) -> Same<Answer> {
+        self.call("save", &mut table.to_vec(), record, |library, table, record| library.save(table, record))
+    }
+
+    pub fn load(&mut self, table: &mut [u32], record: &[u8]) -> Same<Answer> {
+        self.call("load", table, &mut record.to_vec(), |library, table, record| library.load(table, record))
+    }
+
+    /// Many keys on one table, which the model reads once. `each` is given every answer.
+    pub fn find(&mut self, table: &[u32], keys: impl Iterator<Item = u64>, mut each: impl FnMut(Answer)) -> Same<()> {
+        let finder = Finder::new(table);
+        let mut lent = Lent::new(table);
+        for key in keys {
+            self.calls += 1;
+            let told = self.library.find(lent.run(), key);
+            let expected = match &finder {
+                Ok(finder) => found(finder.find(key)),
+                Err(number) => Answer::refused(*number),
+            };
+            if told != expected {
+                return Err(format!("find {}: {:?}, not {:?} (table {:?})", key, told, expected, shown(table)));
+            }
+            each(expected);
+        }
+        lent.holds(table).map_err(|difference| format!("find: {}", difference))
+    }
+
+    /// Each call that a table is lent to, with ids that are seated, absent and 0, a few keys, and two outputs.
+    pub fn every_call(&mut self, table: &[u32], ids: &[u32], keys: &[u64]) -> Same<()> {
+        self.audit(table)?;
+        for id in ids {
+            self.seat(&mut table.to_vec(), *id)?;
+            self.out(&mut table.to_vec(), *id)?;
+        }
+        self.find(table, keys.iter().copied(), |_| ())?;
+        self.save(table, &mut vec![0xEE; 8 + 2 * table.len()])?;
+        self.save(table, &mut [0xEE; 5])?;
+        Ok(())
+    }
+}
+
+/// Enough of a run to see what went wrong.
+fn shown<T>(run: &[T]) -> &[T] {
+    &run[..run.len().min(64)]
+}
+
+#[cfg(test)]
+mod tests {
+    use super::*;
+
+    #[test]
+    fn guards_are_watched() {
+        let mut lent = Lent::new(&[1u32, 2]);
+        assert!(lent.holds(&[1, 2]).is_ok());
+        for place in [0, GUARD - 1, GUARD, GUARD + 1, GUARD + 2, 2 * GUARD + 1] {
+            let kept = std::mem::replace(&mut lent.0[place], 77);
+            assert!(lent.holds(&[1, 2]).is_err());
+            lent.0[place] = kept;
+        }
+        assert_eq!(lent.run(), [1, 2]);
+    }
+}
