@@ -8,3 +8,5 @@ pub mod Length
 pub mod Back
 pub mod OneRecord
 pub mod Exact
+-- Document 01's example.
+pub mod Worked
