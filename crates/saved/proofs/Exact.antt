@@ -73,7 +73,7 @@ module _ (T : Table) (p : Passes T) (s : List ℕ) (is : recordOf T ≡ s) where
   pub record-body : BodyFits s a (T .bare .used)
   record-body = record { outs = λ i h. record { mark = out-mark T p s is i h; leaves = record-leaves i h }; ins = record-ins; apart = record-apart }
 
-  record-fits : Fits s
+  pub record-fits : Fits s
   record-fits =
       let e = seats-is T p s is in
       let f = used-is T p s is in

@@ -1,4 +1,3 @@
-pub mod Worked
 -- Laws of fields, of records one after the other, and of the seats in use.
 pub mod Fields
 pub mod Each
@@ -9,3 +8,5 @@ pub mod Length
 pub mod Back
 pub mod OneRecord
 pub mod Exact
+-- Document 01's example.
+pub mod Worked
