@@ -6,3 +6,4 @@ pub mod Undo
 pub mod Histories
 pub mod Keys
 pub mod Again
+pub mod Hollow

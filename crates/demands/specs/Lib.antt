@@ -5,3 +5,5 @@ pub mod Undo
 pub mod Histories
 pub mod Keys
 pub mod Again
+-- Hollow versions.
+pub mod Hollow

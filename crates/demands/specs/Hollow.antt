@@ -1,0 +1,35 @@
+-- Hollow versions, and why each does not meet the promises. A promise is an equation between a call's outcome and the definition of that call, so an outcome that
+-- the definition does not have is shut out.
+use mathlib.Core.Path.{_≡_}
+use mathlib.Core.List.{List, [], _∷_}
+use mathlib.Core.Logic.{_≢_}
+use Prim.Native.Nat.{ℕ, _<_, _^_}
+use Rattle.rules.specs.Table.{words, tableOf}
+use Rattle.rules.specs.Changes.{opened, lastOut}
+use Rattle.rules.specs.History.{Sound}
+use Rattle.rules.specs.Answers.{fine, refused, done}
+use Rattle.rules.specs.declared.Refusal.{Refusal}
+use Rattle.audit.specs.Audit.{auditCall}
+use Rattle.changes.specs.Calls.{seatCall, outCall}
+use Rattle.find.specs.Find.{findCall}
+
+-- one that refuses every call
+abbrev pub RefusesAll : Type 0
+RefusesAll = (w : List ℕ) (r : Refusal) → Sound w → (auditCall w ≢ refused r) × ((k : ℕ) → findCall w k ≢ refused r)
+
+-- one whose changes do nothing
+abbrev pub DoesNothing : Type 0
+DoesNothing = (w : List ℕ) (id b : ℕ) → Sound w → (outCall w id ≢ done (b ∷ []) w) × (id < 2 ^ 32 → seatCall w id ≢ done (b ∷ []) w)
+
+-- one that seats elsewhere than in the last seat out, as in the lowest free one
+abbrev pub SeatsElsewhere : Type 0
+SeatsElsewhere = (w v : List ℕ) (id b : ℕ) → Sound w → id < 2 ^ 32 → b ≢ lastOut (tableOf w .bare) → seatCall w id ≢ done (b ∷ []) v
+
+-- seven seats, the servers 11, 12 and 13
+abbrev pub seven : List ℕ
+seven = words (opened 7 (11 ∷ 12 ∷ 13 ∷ []))
+
+-- one that finds the same seat for every key; one that makes the first redraw properly and then takes any seat in use; one with draws from nowhere: two keys, on
+-- two seats, after three redraws and after two
+abbrev pub TwoKeys : Type 0
+TwoKeys = (findCall seven 20 ≡ fine (1 ∷ 12 ∷ 4 ∷ [])) × (findCall seven 28 ≡ fine (2 ∷ 13 ∷ 3 ∷ []))
