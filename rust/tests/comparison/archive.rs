@@ -102,7 +102,7 @@ impl Library for Wrapped {
     }
 }
 
-const LIMIT: Duration = Duration::from_secs(60);
+const LIMIT: Duration = Duration::from_secs(600);
 
 /// Compares on a thread of its own, so that a call that does not end is told as well.
 fn passes(name: &'static str, compare: fn(&dyn Library) -> Same<u64>, library: &'static (dyn Library + Sync)) {
