@@ -2,16 +2,20 @@
 -- Assumes nothing.
 use mathlib.Core.Path.{_≡_, refl, sym, ap, _∙_}
 use mathlib.Core.List.{List}
-use Prim.Native.Nat.{ℕ}
+use Prim.Native.Nat.{ℕ, _<_}
 use native.Mathlib.Omega.{arith}
-use Rattle.rules.specs.Table.{Table, tableOf}
+use lib.ListN.{length}
+use lib.Seq.{getD-set-same}
+use Rattle.rules.specs.Table.{_!_, Table, tableOf}
 use Rattle.rules.specs.Changes.{opened}
 use Rattle.rules.specs.Keys.{walk, lookup}
 use Rattle.rules.proofs.Numbers.{not-fine}
+use Rattle.sound.proofs.Sound.{sound-table}
+use Rattle.sound.proofs.Reached.{passes}
 use Rattle.splitmix.specs.Generator.{mixed, output}
 use Rattle.changes.proofs.Accepted.{out-changes, seat-changes}
 use Rattle.find.specs.Find.{findCall}
-use Rattle.demands.specs.Hollow.{RefusesAll, DoesNothing, SeatsElsewhere, TwoKeys}
+use Rattle.demands.specs.Hollow.{RefusesAll, DoesNothing, SeatsElsewhere, SeatsTwice, TakesAnother, KeepsId, TwoKeys}
 use Rattle.demands.proofs.Audit as Audit
 use Rattle.demands.proofs.Keys.{every-key}
 
@@ -27,6 +31,19 @@ does-nothing w id b s = (
 
 pub seats-elsewhere : SeatsElsewhere
 seats-elsewhere w v id b s small ne e = ne (sym (seat-changes w v id b s small e .accepts .isLast))
+
+pub seats-twice : SeatsTwice
+seats-twice w v id b x s small below has e = seat-changes w v id b s small e .accepts .absent x below has
+
+pub takes-another : TakesAnother
+takes-another w v id b s ne e = ne (out-changes w v id b s e .accepts .has)
+
+-- the seat holds 0 then, and the id is not 0
+pub keeps-id : KeepsId
+keeps-id w v id b s has e =
+    let c = out-changes w v id b s e in
+    let inside : b < length (tableOf w .S) = omega (arith, c .accepts .below, passes (sound-table s) .ids .size) in
+    c .accepts .isId .0 (sym has ∙ ap (λ (T : Table). T .S ! b) (c .table) ∙ getD-set-same (tableOf w .S) b 0 0 inside)
 
 pub two-keys : TwoKeys
 unfolding findCall opened walk lookup mixed output

@@ -4,7 +4,7 @@ use mathlib.Core.Path.{_≡_}
 use mathlib.Core.List.{List, [], _∷_}
 use mathlib.Core.Logic.{_≢_}
 use Prim.Native.Nat.{ℕ, _<_, _^_}
-use Rattle.rules.specs.Table.{words, tableOf}
+use Rattle.rules.specs.Table.{_!_, words, tableOf}
 use Rattle.rules.specs.Changes.{opened, lastOut}
 use Rattle.rules.specs.History.{Sound}
 use Rattle.rules.specs.Answers.{fine, refused, done}
@@ -24,6 +24,17 @@ DoesNothing = (w : List ℕ) (id b : ℕ) → Sound w → (outCall w id ≢ done
 -- one that seats elsewhere than in the last seat out, as in the lowest free one
 abbrev pub SeatsElsewhere : Type 0
 SeatsElsewhere = (w v : List ℕ) (id b : ℕ) → Sound w → id < 2 ^ 32 → b ≢ lastOut (tableOf w .bare) → seatCall w id ≢ done (b ∷ []) v
+
+-- one that seats an id that is seated already
+abbrev pub SeatsTwice : Type 0
+SeatsTwice = (w v : List ℕ) (id b x : ℕ) → Sound w → id < 2 ^ 32 → x < w ! 0 → tableOf w .S ! x ≡ id → seatCall w id ≢ done (b ∷ []) v
+
+-- one that takes another server out; one that leaves the id in its seat
+abbrev pub TakesAnother : Type 0
+TakesAnother = (w v : List ℕ) (id b : ℕ) → Sound w → tableOf w .S ! b ≢ id → outCall w id ≢ done (b ∷ []) v
+
+abbrev pub KeepsId : Type 0
+KeepsId = (w v : List ℕ) (id b : ℕ) → Sound w → tableOf v .S ! b ≡ id → outCall w id ≢ done (b ∷ []) v
 
 -- seven seats, the servers 11, 12 and 13
 abbrev pub seven : List ℕ
