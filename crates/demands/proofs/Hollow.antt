@@ -15,7 +15,7 @@ use Rattle.sound.proofs.Reached.{passes}
 use Rattle.splitmix.specs.Generator.{mixed, output}
 use Rattle.changes.proofs.Accepted.{out-changes, seat-changes}
 use Rattle.find.specs.Find.{findCall}
-use Rattle.demands.specs.Hollow.{RefusesAll, DoesNothing, SeatsElsewhere, SeatsTwice, TakesAnother, KeepsId, TwoKeys}
+use Rattle.demands.specs.Hollow.{RefusesAll, DoesNothing, SeatsElsewhere, SeatsTwice, TakesAnother, KeepsId, TwoKeys, TodaysLine}
 use Rattle.demands.proofs.Audit as Audit
 use Rattle.demands.proofs.Keys.{every-key}
 
@@ -48,3 +48,7 @@ keeps-id w v id b s has e =
 pub two-keys : TwoKeys
 unfolding findCall opened walk lookup mixed output
 two-keys = (refl, refl)
+
+pub todays-line : TodaysLine
+unfolding findCall opened walk lookup mixed output
+todays-line = (refl, refl, refl, refl)

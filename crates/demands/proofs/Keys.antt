@@ -4,11 +4,11 @@
 use mathlib.Core.Path.{_≡_, refl, sym, ap, _∙_, subst}
 use mathlib.Core.List.{List, [], _∷_}
 use mathlib.Core.Logic.{_≢_}
-use Prim.Native.Nat.{ℕ}
+use Prim.Native.Nat.{ℕ, _<_}
 use lib.Seq.{getD-set-other}
 use borrow.Author.Tests.{ne-eqb}
 use Rattle.rules.specs.Table.{_!_, Table, tableOf}
-use Rattle.rules.specs.History.{Sound}
+use Rattle.rules.specs.History.{Reached, Sound}
 use Rattle.rules.specs.Keys.{firstOf, pickOf, movesOf, Found, setRule, Looked, found, arrayRule}
 use Rattle.rules.specs.Answers.{Answer, fine}
 use Rattle.rules.proofs.Words.{legal-is}
@@ -22,7 +22,7 @@ use Rattle.lookups.proofs.InUse as InUse
 use Rattle.lookups.proofs.FewDraws as FewDraws
 use Rattle.lookups.proofs.Stay as Stay
 use Rattle.find.specs.Find.{findCall}
-use Rattle.demands.specs.Keys.{seatFor, EveryKey, TakingOut, Seating}
+use Rattle.demands.specs.Keys.{seatFor, BySets, EveryKey, TakingOut, Seating}
 use Rattle.changes.proofs.Accepted.{out-changes, seat-changes}
 
 -- what the array rule says of a key
@@ -36,24 +36,30 @@ pub record Finds (w : List ℕ) (k : ℕ) (f : Found) : Type 0 where
   pub few : Few (w ! 0) (w ! 1) (f .draws)
   pub answer : findCall w k ≡ fine (f .seat ∷ tableOf w .S ! f .seat ∷ f .draws ∷ [])
 
-pub finds : (w : List ℕ) (k : ℕ) → Sound w → (f : Found) × Finds w k f
-unfolding findCall
-finds w k s =
-    let T = tableOf w in
-    let r = sound-table s in
-    let l = sound-legal s in
-    let first = firstOf k (w ! 0) in
-    let below = first-below k (w ! 0) (l .some) in
-    let e = BothRules.theorem T r (pickOf k) first (hash-draws k) below in
-    let served = InUse.theorem T r (pickOf k) first (hash-draws k) below in (
-      setRule (T .bare) (movesOf (r .a) (r .ids) (r .history)) (pickOf k) first,
+module _ (w : List ℕ) (k : ℕ) (r : Reached (tableOf w)) (s : Sound w) where
+  abbrev T : Table
+  T = tableOf w
+
+  abbrev first : ℕ
+  first = firstOf k (w ! 0)
+
+  below : first < w ! 0
+  below = first-below k (w ! 0) (sound-legal s .some)
+
+  pub finds-by : Finds w k (setRule (T .bare) (movesOf (r .a) (r .ids) (r .history)) (pickOf k) first)
+  unfolding findCall
+  finds-by =
+      let e = BothRules.theorem T r (pickOf k) first (hash-draws k) below in
+      let served = InUse.theorem T r (pickOf k) first (hash-draws k) below in
       record {
         ruled = e;
         serves = served;
         few = FewDraws.theorem T r (pickOf k) first (hash-draws k) below;
-        answer = rw (legal-is w l, e, ne-eqb _ 0 (served .server)) refl;
-      },
-    )
+        answer = rw (legal-is w (sound-legal s), e, ne-eqb _ 0 (served .server)) refl;
+      }
+
+pub finds : (w : List ℕ) (k : ℕ) → Sound w → (f : Found) × Finds w k f
+finds w k s = (_, finds-by w k (sound-table s) s)
 
 -- the same, of what the rule is known to find
 pub finds-same : (w : List ℕ) (k : ℕ) (f : Found) → Sound w → rule (tableOf w) k ≡ found f → Finds w k f
@@ -61,6 +67,9 @@ finds-same w k f s e =
     let g = finds w k s in
     let same : g .0 ≡ f = cc (g .1 .ruled) in
     subst (λ (x : Found). Finds w k x) same (g .1)
+
+pub by-sets : BySets
+by-sets w k r s = finds-by w k r s .answer
 
 pub every-key : EveryKey
 every-key w k s =

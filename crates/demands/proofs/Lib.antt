@@ -2,6 +2,7 @@
 pub mod Stack
 -- Theorems.
 pub mod Audit
+pub mod Accepts
 pub mod Undo
 pub mod Histories
 pub mod Keys

@@ -7,6 +7,8 @@ use Prim.Native.Nat.{ℕ, _<_, _^_}
 use Rattle.rules.specs.Table.{_!_, words, tableOf}
 use Rattle.rules.specs.Changes.{opened, lastOut}
 use Rattle.rules.specs.History.{Sound}
+use Rattle.rules.specs.Keys.{firstOf, pickOf}
+use Rattle.rules.specs.Examples.{after, h3}
 use Rattle.rules.specs.Answers.{fine, refused, done}
 use Rattle.rules.specs.declared.Refusal.{Refusal}
 use Rattle.audit.specs.Audit.{auditCall}
@@ -44,3 +46,9 @@ seven = words (opened 7 (11 ∷ 12 ∷ 13 ∷ []))
 -- two seats, after three redraws and after two
 abbrev pub TwoKeys : Type 0
 TwoKeys = (findCall seven 20 ≡ fine (1 ∷ 12 ∷ 4 ∷ [])) × (findCall seven 28 ≡ fine (2 ∷ 13 ∷ 3 ∷ []))
+
+-- one that reads today's W on a redraw: in E3's state key 11 comes to seat 1, and draws position 1. Today seat 2 stands there; it was seat 4 after seat 1 left, and
+-- the key goes on to seat 3
+abbrev pub TodaysLine : Type 0
+TodaysLine =
+    (firstOf 11 7 ≡ 1) × (pickOf 11 1 (after 7 h3 .bare .A ! 1) ≡ 1) × (after 7 h3 .bare .W ! 1 ≡ 2) × (findCall (words (after 7 h3)) 11 ≡ fine (3 ∷ 14 ∷ 3 ∷ []))

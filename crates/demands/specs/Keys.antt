@@ -4,8 +4,9 @@ use mathlib.Core.Path.{_≡_}
 use mathlib.Core.List.{List, [], _∷_}
 use mathlib.Core.Logic.{_≢_}
 use Prim.Native.Nat.{ℕ, _+_, _-_, _<_, _≤_, _^_}
-use Rattle.rules.specs.Table.{_!_}
-use Rattle.rules.specs.History.{Sound}
+use Rattle.rules.specs.Table.{_!_, tableOf}
+use Rattle.rules.specs.History.{Reached, Sound}
+use Rattle.rules.specs.Keys.{setRule, movesOf, pickOf, firstOf}
 use Rattle.rules.specs.Answers.{fine, done}
 use Rattle.changes.specs.Calls.{seatCall, outCall}
 use Rattle.find.specs.Find.{findCall}
@@ -26,6 +27,13 @@ pub record Answered (w : List ℕ) (k : ℕ) : Type 0 where
   pub seat : seatFor w k < w ! 0
   pub server : serverFor w k ≢ 0
   pub draws : drawsFor w k ≤ 1 + (w ! 0 - w ! 1)
+
+-- and they are those of the set rule, on whichever history left the words
+abbrev pub BySets : Type 0
+BySets =
+    (w : List ℕ) (k : ℕ) (r : Reached (tableOf w)) → Sound w
+    → let f = setRule (tableOf w .bare) (movesOf (r .a) (r .ids) (r .history)) (pickOf k) (firstOf k (w ! 0)) in
+    findCall w k ≡ fine (f .seat ∷ tableOf w .S ! f .seat ∷ f .draws ∷ [])
 
 abbrev pub EveryKey : Type 0
 EveryKey = (w : List ℕ) (k : ℕ) → Sound w → Answered w k

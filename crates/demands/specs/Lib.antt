@@ -1,5 +1,6 @@
--- Demand 2: the audit.
+-- Demand 2: the audit, and what is accepted.
 pub mod Audit
+pub mod Accepts
 -- Demand 3, sentence by sentence.
 pub mod Undo
 pub mod Histories
