@@ -16,7 +16,7 @@ use Rattle.parts.specs.Shape.{sizeOf, Shape}
 use Rattle.parts.specs.declared.Size.the-variants.{Seats}
 use Rattle.parts.proofs.Sized.{legal-seats, shaped}
 use Rattle.sound.proofs.Sound.{sound?}
-use Rattle.rules.proofs.Decided.{true-or-false, yes-true, no-false}
+use Rattle.promises.proofs.Decided.{true-or-false, yes-true, no-false}
 use Rattle.audit.specs.Pass.{Counted, AllPass}
 use Rattle.audit.proofs.Exact.{Pass, pass-sound, sound-pass}
 use Rattle.audit.specs.Audit.{isSound, auditCall}

@@ -9,8 +9,8 @@ use borrow.Author.Count.{below-more}
 use Rattle.rules.specs.Table.{_!_, Bare, Table}
 use Rattle.sound.specs.Test.{Owes, stays, Cut, stood, moved}
 use Rattle.sound.proofs.Audit.{owes-stays}
-use Rattle.rules.specs.Decides.{Decides}
-use Rattle.rules.proofs.Decided.{decides-iff}
+use Rattle.promises.specs.Decides.{Decides}
+use Rattle.promises.proofs.Decided.{decides-iff}
 use Rattle.audit.specs.Pass.{Stands, SeatPasses, Removed, RemovalPasses, AllPass}
 
 -- the seat that stood last moved, if it is another

@@ -11,7 +11,7 @@ use Rattle.rules.specs.declared.Refusal.{Refusal}
 use Rattle.rules.specs.declared.Refusal.the-variants.{Size, Damaged}
 use Rattle.rules.proofs.Numbers.{not-fine}
 use Rattle.sound.proofs.Sound.{sound?}
-use Rattle.rules.proofs.Decided.{true-yes}
+use Rattle.promises.proofs.Decided.{true-yes}
 use Rattle.audit.specs.Audit.{isSound, auditCall}
 
 module _ (w : List ℕ) where

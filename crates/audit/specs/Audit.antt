@@ -7,7 +7,7 @@ use Rattle.rules.specs.History.{Sound}
 use Rattle.rules.specs.Answers.{Answer, fine, refused, _⇒_, firstThat}
 use Rattle.rules.specs.declared.Refusal.the-variants.{Size, Damaged}
 use Rattle.sound.proofs.Sound.{sound?}
-use Rattle.rules.specs.Decides.{decided}
+use Rattle.promises.specs.Decides.{decided}
 use Rattle.audit.specs.declared.Audited.{Audited}
 use Rattle.audit.specs.declared.Audited.the-variants as audited
 

@@ -3,8 +3,9 @@ ghost use mathlib.Core.Path.{_≡_};
 ghost use Prim.Native.Nat.{_<_, _≤_};
 ghost use lib.ListN.{length};
 ghost use Rattle.rules.specs.Table.{_!_, tableFor};
+ghost use Rattle.rules.specs.Answers.{Says};
 ghost use Rattle.sound.specs.Test.{Owes};
-ghost use Rattle.rules.specs.Decides.{Decides};
+ghost use Rattle.promises.specs.Decides.{Decides};
 ghost use Rattle.audit.specs.Pass.{Counted, Stands, SeatPasses, Removed, RemovalPasses, AllPass};
 ghost use Rattle.audit.specs.Audit.{answerOf, auditCall};
 use ids::repeats_in;
@@ -143,7 +144,7 @@ fn all_pass(t: &[u32], a: usize, n: usize) -> bool
 }
 
 pub fn audit_table(t: &[u32]) -> Audited
-    ensures { λ r. ⌜ answerOf r ≡ auditCall (now (t .entry)) ⌝ }
+    ensures { λ r. ⌜ Says answerOf (auditCall (now (t .entry))) r ⌝ }
 {
     let Size::Seats(a) = size_of(t) else {
         return Audited::Refused(Refusal::Size);

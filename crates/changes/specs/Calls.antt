@@ -24,9 +24,6 @@ abbrev pub changedAnswer : Changed → Answer
 changedAnswer (changes.At b) = fine (b .0 ∷ [])
 changedAnswer (changes.Refused r) = refused r
 
-abbrev pub outcome : Answer → List ℕ → Outcome
-outcome r w = record { answer = r; after = w }
-
 -- Opening takes a from its argument and ignores what the run w held
 unfoldable pub openCall : List ℕ → ℕ → List ℕ → Outcome
 openCall w a ids =

@@ -12,7 +12,7 @@ use Rattle.rules.specs.declared.Refusal.the-variants.{Size, Damaged}
 use Rattle.rules.proofs.Words.{legal-is}
 use Rattle.sound.proofs.Sound.{sound?, sound-legal}
 use Rattle.audit.specs.Audit.{isSound, auditCall}
-use Rattle.rules.specs.Decides.{decided}
+use Rattle.promises.specs.Decides.{decided}
 use Rattle.demands.specs.Audit.{Audit}
 
 module _ (w : List ℕ) where

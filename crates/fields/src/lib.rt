@@ -3,7 +3,7 @@ ghost use mathlib.Core.Path.{_≡_};
 ghost use Prim.Native.Nat.{_+_, _<_, _≤_};
 ghost use lib.ListN.{length};
 ghost use lib.Seq.{sets};
-ghost use Rattle.rules.specs.Decides.{Decides};
+ghost use Rattle.promises.specs.Decides.{Decides};
 ghost use Rattle.saved.specs.Record.{bytes};
 ghost use Rattle.saved.specs.Reader.{numberAt, Stands};
 

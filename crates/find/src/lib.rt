@@ -4,6 +4,7 @@ ghost use Prim.Native.Nat.{_%_, _<_};
 ghost use lib.ListN.{length};
 ghost use Rattle.splitmix.specs.Generator.{output};
 ghost use Rattle.rules.specs.Keys.{walk};
+ghost use Rattle.rules.specs.Answers.{Says};
 ghost use Rattle.find.specs.Find.{answerOf, findCall};
 ghost use Rattle.find.specs.Steps.{walkOf, Lookable, Looks};
 use parts::Size;
@@ -88,7 +89,7 @@ fn look_up(A: &[u32], K: &[u32], key: u64, first: Seat) -> Drawn
 
 // The server for a key. It writes nothing, and needs no sound table.
 pub fn find_server(t: &[u32], key: u64) -> Lookup
-    ensures { λ r. ⌜ answerOf r ≡ findCall (now (t .entry)) key ⌝ }
+    ensures { λ r. ⌜ Says answerOf (findCall (now (t .entry)) key) r ⌝ }
 {
     let Size::Seats(a) = size_of(t) else {
         return Lookup::Refused(Refusal::Size);

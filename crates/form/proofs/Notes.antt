@@ -14,7 +14,7 @@ use lib.Dec.{eqb}
 use borrow.Author.Tests.{eq-eqb, ne-eqb, eqb-true}
 use Rattle.rules.specs.Table.{_!_, mostSeats}
 use Rattle.rules.proofs.Lists.{zeros-at}
-use Rattle.rules.proofs.Decided.{true-or-false}
+use Rattle.promises.proofs.Decided.{true-or-false}
 use Rattle.sound.specs.Kept.{Leaves}
 use Rattle.sound.specs.Form.{after}
 use Rattle.sound.proofs.Made.{after-counts}

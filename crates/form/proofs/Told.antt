@@ -9,8 +9,8 @@ use lib.ListN.{length}
 use lib.Dec.{eqb}
 use borrow.Author.Tests.{eq-eqb, eqb-true}
 use Rattle.rules.specs.Table.{_!_}
-use Rattle.rules.specs.Decides.{Decides}
-use Rattle.rules.proofs.Decided.{decides-iff}
+use Rattle.promises.specs.Decides.{Decides}
+use Rattle.promises.proofs.Decided.{decides-iff}
 use Rattle.sound.proofs.Reached.{passes}
 use Rattle.saved.specs.Record.{IsRecord}
 use Rattle.saved.specs.Reader.{rank, inAt, seatsIn, usedIn, bareFrom}

@@ -3,7 +3,7 @@ ghost use mathlib.Core.Path.{_≡_};
 ghost use Prim.Native.Nat.{_+_, _*_, _-_, _<_, _≤_};
 ghost use lib.ListN.{length, replicate};
 ghost use Rattle.rules.specs.Table.{mostSeats};
-ghost use Rattle.rules.specs.Decides.{Decides};
+ghost use Rattle.promises.specs.Decides.{Decides};
 ghost use Rattle.saved.specs.Reader.{rank, inAt, serverAt, bareFrom};
 ghost use Rattle.saved.specs.Fits.{HeadFits, InFits, AllIn, New, AllNew, BodyFits};
 ghost use Rattle.form.specs.Form.{formOf};

@@ -10,12 +10,8 @@ use lib.ListN.{length}
 use lib.Dec.{eqb}
 use borrow.Author.Tests.{eq-eqb, ne-eqb, eqb-true, eqb-false}
 use Rattle.rules.specs.Table.{_!_}
-use Rattle.rules.proofs.Decided.{true-or-false}
+use Rattle.promises.proofs.Decided.{true-or-false, neither}
 use Rattle.rules.specs.Ids.{occurs, repeats, placeOf}
-
-or-false : (p q : Bool) → (p || q) ≡ false → (p ≡ false) × (q ≡ false)
-or-false true q e = true-or-false true refl e
-or-false false q e = (refl, e)
 
 pub occurs-at : (id : ℕ) (l : List ℕ) (i : ℕ) → i < length l → l ! i ≡ id → occurs id l ≡ true
 unfolding occurs
@@ -52,11 +48,11 @@ unfolding repeats
 apart [] r i j h k ne e = absurd (omega arith)
 apart (x ∷ l) r zero zero h k ne e = absurd (omega arith)
 apart (x ∷ l) r zero (suc j) h k ne e =
-    let both = or-false (not (eqb x 0) && occurs x l) (repeats l) r in
-    let o : occurs x l ≡ false = rw (ne-eqb x 0 ne) at (both .0) in
+    let parts = neither (not (eqb x 0) && occurs x l) (repeats l) r in
+    let o : occurs x l ≡ false = rw (ne-eqb x 0 ne) at (parts .0) in
     absent x l o j (omega arith) (sym e)
 apart (x ∷ l) r (suc i) zero h k ne e = absurd (omega arith)
-apart (x ∷ l) r (suc i) (suc j) h k ne e = apart l (or-false (not (eqb x 0) && occurs x l) (repeats l) r .1) i j (omega arith) (omega arith) ne e
+apart (x ∷ l) r (suc i) (suc j) h k ne e = apart l (neither (not (eqb x 0) && occurs x l) (repeats l) r .1) i j (omega arith) (omega arith) ne e
 
 pub not-repeats : (l : List ℕ) → ((i j : ℕ) → i < j → j < length l → l ! i ≢ 0 → l ! i ≢ l ! j) → repeats l ≡ false
 unfolding repeats

@@ -8,6 +8,7 @@ use native.Mathlib.Omega.{arith}
 use lib.ListN.{length}
 use lib.Dec.{leb, eqb}
 use borrow.Author.Tests.{leb-true, eqb-true, ne-eqb}
+use Rattle.promises.proofs.Decided.{both}
 use Rattle.lines.specs.Lines.{Read, got, bad, isDigit, digits, zeroAlone, number, next}
 
 -- at least k bytes were read, and the value is at most lim
@@ -20,10 +21,6 @@ not-got x rest e = let z : _≡_ {A = ℕ} 0 1 = cc in absurd (omega arith)
 
 here : (lim k v x : ℕ) (bs rest : List ℕ) → v ≤ lim → k + length rest ≤ length bs → got v rest ≡ got x rest → Got lim k bs x rest
 here lim k v x bs rest h l e = let same : v ≡ x = cc in record { most = omega arith; shorter = l }
-
-pub both : (p q : Bool) → (p && q) ≡ true → (p ≡ true) × (q ≡ true)
-both true q e = (refl, e)
-both false q e = let z : _≡_ {A = ℕ} 0 1 = cc in absurd (omega arith)
 
 -- a value and a rest, read off
 pub got-value : (v x : ℕ) (bs rest : List ℕ) → got v bs ≡ got x rest → v ≡ x

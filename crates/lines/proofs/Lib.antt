@@ -3,3 +3,4 @@ pub mod Got
 pub mod Listing
 pub mod Commands
 pub mod Long
+pub mod Tight

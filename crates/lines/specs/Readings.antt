@@ -1,8 +1,9 @@
 -- What the enums that the code hands on mean, on the line s.
+use mathlib.Core.Path.{_≡_}
 use mathlib.Core.List.{List, []}
-use Prim.Native.Nat.{ℕ}
-use lib.ListN.{take, drop}
-use Rattle.lines.specs.Lines.{Read, got, bad, Ids, all, broken, next, last, given, mostId, mostKey, withA, Command, openLine, seatLine, outLine, findLine, unknown}
+use Prim.Native.Nat.{ℕ, _≤_}
+use lib.ListN.{length, take, drop}
+use Rattle.lines.specs.Lines.{Read, got, bad, Ids, all, broken, next, last, given, mostId, mostKey, withA, Command, openLine, seatLine, outLine, findLine, unknown, commandOf}
 use Rattle.lines.specs.declared.Word.{Word}
 use Rattle.lines.specs.declared.Word.the-variants as word
 use Rattle.lines.specs.declared.First.{First}
@@ -56,3 +57,11 @@ lineOf ids (line.Seat id) = seatLine id
 lineOf ids (line.Out id) = outLine id
 lineOf ids (line.Find key) = findLine key
 lineOf ids line.Unknown = unknown
+
+-- the command that a line is, and the list after it, which holds its ids
+abbrev pub IsLine : List ℕ → Line × List ℕ → Type 0
+IsLine s o = (lineOf (o .1) (o .0) ≡ commandOf s) × (lineCount (o .0) ≤ length (o .1))
+
+-- what is promised of these: the command and its ids
+abbrev pub seen : Line × List ℕ → Line × List ℕ
+seen o = (o .0, take (lineCount (o .0)) (o .1))

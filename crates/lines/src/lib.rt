@@ -3,7 +3,7 @@ ghost use mathlib.Core.Path.{_≡_};
 ghost use Prim.Native.Nat.{_+_, _*_, _≤_};
 ghost use lib.ListN.{length, drop};
 ghost use Rattle.lines.specs.Lines.{digits, number, next, last, mostId, idsOf, starts, withA, commandOf};
-ghost use Rattle.lines.specs.Readings.{afterWord, readOf, idOf, listOf, listCount, lineOf, lineCount};
+ghost use Rattle.lines.specs.Readings.{afterWord, readOf, idOf, listOf, listCount, lineOf, lineCount, IsLine};
 
 // A place in a line.
 pub struct Cursor {
@@ -221,7 +221,7 @@ fn open_line(c: Cursor, s: &[u8], into: &mut [u32]) -> Line
 // The command that a line is. The ids of an opening go into `into`.
 pub fn command(s: &[u8], into: &mut [u32]) -> Line
     requires { ⌜ length (now s) ≤ 2 * length (now into) ⌝ }
-    ensures { λ r. ⌜ (lineOf (now (into .exit)) r ≡ commandOf (now (s .entry))) × (lineCount r ≤ length (now (into .exit))) ⌝ }
+    ensures { λ r. ⌜ IsLine (now (s .entry)) (r, now (into .exit)) ⌝ }
 {
     let First::Is(word, c) = (Cursor { at: 0 }).word(s) else {
         return Line::Unknown;

@@ -4,7 +4,9 @@ use mathlib.Core.Bool.{cond}
 use mathlib.Core.List.{List}
 use Prim.Native.Nat.{ℕ, _+_, _<_, _≤_}
 use lib.ListN.{length}
-use Rattle.rules.specs.Table.{_!_, base, runLength, mostSeats, legal}
+use Rattle.rules.specs.Table.{_!_, base, part, runLength, mostSeats, legal}
+use Rattle.rules.specs.declared.Seat.{Seat}
+use Rattle.rules.specs.declared.Position.{Position}
 use Rattle.parts.specs.declared.Size.{Size}
 use Rattle.parts.specs.declared.Size.the-variants.{Seats, Illegal}
 
@@ -21,3 +23,14 @@ pub record Shape (w : List ℕ) (a : ℕ) : Type 0 where
 pub record Lent (w : List ℕ) (a k i : ℕ) : Type 0 where
   pub fits : base a k + a ≤ length w
   pub below : i < a
+
+-- part k, with its length
+abbrev pub Lends : List ℕ → ℕ → ℕ → List ℕ → Type 0
+Lends w a k l = (l ≡ part a k w) × (length l ≡ a)
+
+-- the seat of this number, and the position
+abbrev pub IsSeat : ℕ → Seat → Type 0
+IsSeat x b = b .0 ≡ x
+
+abbrev pub IsPosition : ℕ → Position → Type 0
+IsPosition x p = p .0 ≡ x

@@ -3,7 +3,7 @@ ghost use mathlib.Core.Path.{_≡_};
 ghost use Prim.Native.Nat.{_+_, _<_, _≤_};
 ghost use lib.ListN.{length, set};
 ghost use Rattle.rules.specs.Table.{_!_, base, part, tableFor};
-ghost use Rattle.parts.specs.Shape.{sizeOf, Shape, Lent};
+ghost use Rattle.parts.specs.Shape.{sizeOf, Shape, Lent, Lends, IsSeat, IsPosition};
 use rules::Position;
 use rules::Seat;
 
@@ -58,7 +58,7 @@ fn put_at(part: &mut [u32], i: usize, v: u32)
 // Part k, lent.
 pub fn lend(t: &[u32], a: usize, k: usize) -> &[u32]
     requires { ⌜ base a k + a ≤ length (now t) ⌝ }
-    ensures { λ r. ⌜ (now r ≡ part a k (now (t .entry))) × (length (now r) ≡ a) ⌝ }
+    ensures { λ r. ⌜ Lends (now (t .entry)) a k (now r) ⌝ }
 {
     let lo = 2 + k * a;
     &t[lo..lo + a]
@@ -85,13 +85,13 @@ fn put(t: &mut [u32], a: usize, k: usize, i: usize, v: u32)
 // Where a seat stands in the line of all a seats, and who stands at a position of it: b at b. Opening writes this
 // line, the audit starts from it, and a key's first draw falls on it.
 pub fn first_place(b: Seat) -> Position
-    ensures { λ r. ⌜ r .0 ≡ b .0 ⌝ }
+    ensures { λ r. ⌜ IsPosition (b .0) r ⌝ }
 {
     Position(b.0)
 }
 
 pub fn first_seat(p: Position) -> Seat
-    ensures { λ r. ⌜ r .0 ≡ p .0 ⌝ }
+    ensures { λ r. ⌜ IsSeat (p .0) r ⌝ }
 {
     Seat(p.0)
 }
@@ -114,28 +114,28 @@ pub fn get_a(t: &[u32], a: usize, b: Seat) -> u32
 
 pub fn get_k(t: &[u32], a: usize, b: Seat) -> Seat
     requires { ⌜ (Shape (now t) a) × (b .0 < a) ⌝ }
-    ensures { λ r. ⌜ r .0 ≡ tableFor a (now (t .entry)) .bare .K ! (b .0) ⌝ }
+    ensures { λ r. ⌜ IsSeat (tableFor a (now (t .entry)) .bare .K ! (b .0)) r ⌝ }
 {
     Seat(word(t, a, K, b.0 as usize))
 }
 
 pub fn get_w(t: &[u32], a: usize, p: Position) -> Seat
     requires { ⌜ (Shape (now t) a) × (p .0 < a) ⌝ }
-    ensures { λ r. ⌜ r .0 ≡ tableFor a (now (t .entry)) .bare .W ! (p .0) ⌝ }
+    ensures { λ r. ⌜ IsSeat (tableFor a (now (t .entry)) .bare .W ! (p .0)) r ⌝ }
 {
     Seat(word(t, a, W, p.0 as usize))
 }
 
 pub fn get_l(t: &[u32], a: usize, b: Seat) -> Position
     requires { ⌜ (Shape (now t) a) × (b .0 < a) ⌝ }
-    ensures { λ r. ⌜ r .0 ≡ tableFor a (now (t .entry)) .bare .L ! (b .0) ⌝ }
+    ensures { λ r. ⌜ IsPosition (tableFor a (now (t .entry)) .bare .L ! (b .0)) r ⌝ }
 {
     Position(word(t, a, L, b.0 as usize))
 }
 
 pub fn get_r(t: &[u32], a: usize, i: usize) -> Seat
     requires { ⌜ (Shape (now t) a) × (i < a) ⌝ }
-    ensures { λ r. ⌜ r .0 ≡ tableFor a (now (t .entry)) .bare .R ! i ⌝ }
+    ensures { λ r. ⌜ IsSeat (tableFor a (now (t .entry)) .bare .R ! i) r ⌝ }
 {
     Seat(word(t, a, R, i))
 }

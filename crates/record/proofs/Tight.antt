@@ -1,39 +1,25 @@
--- The promises of `save` and `load` leave one outcome: an answer's number and values say which result it is, and the rest is given.
+-- The promises of `save` and `load` leave one outcome: an answer's number and values say which result it is.
 -- Assumes nothing.
-use mathlib.Core.Path.{_≡_, sym, ap}
-use mathlib.Core.List.{List}
-use Prim.Native.Nat.{ℕ}
-use Rattle.rules.specs.Answers.{Answer}
-use Rattle.rules.proofs.Numbers.{not-fine, refused-injective}
-use Rattle.changes.specs.Calls.{outcome}
-use Rattle.changes.proofs.Tight.{one-outcome}
+use mathlib.Core.Path.{refl}
+use Rattle.promises.specs.One.{One}
+use Rattle.rules.specs.Answers.{Outcome, Leaves}
+use Rattle.rules.proofs.One.{one-leaves, OneOf, is-ok, is-no, apart-by}
 use Rattle.record.specs.declared.Saved.{Saved}
 use Rattle.record.specs.declared.Saved.the-variants as saved
 use Rattle.record.specs.declared.Loaded.{Loaded}
 use Rattle.record.specs.declared.Loaded.the-variants as loaded
-use Rattle.record.specs.Calls.{savedAnswer, loadedAnswer, saveCall, loadCall}
+use Rattle.record.specs.Calls.{savedAnswer, loadedAnswer}
 
-pub savedAnswer-injective : (r s : Saved) → savedAnswer r ≡ savedAnswer s → r ≡ s
-savedAnswer-injective (saved.Bytes m) (saved.Bytes n) h =
-    let v = ap (λ (a : Answer). a .values) h in
-    let same : m ≡ n = cc in
-    ap saved.Bytes same
-savedAnswer-injective (saved.Bytes m) (saved.Refused q) h = not-fine q _ (sym h)
-savedAnswer-injective (saved.Refused p) (saved.Bytes n) h = not-fine p _ h
-savedAnswer-injective (saved.Refused p) (saved.Refused q) h = ap saved.Refused (refused-injective p q h)
+saved-is : (r : Saved) → OneOf saved.Bytes saved.Refused r
+saved-is (saved.Bytes n) = is-ok n
+saved-is (saved.Refused q) = is-no q
 
-pub loadedAnswer-injective : (r s : Loaded) → loadedAnswer r ≡ loadedAnswer s → r ≡ s
-loadedAnswer-injective (loaded.Seats m) (loaded.Seats n) h =
-    let v = ap (λ (a : Answer). a .values) h in
-    let same : m ≡ n = cc in
-    ap loaded.Seats same
-loadedAnswer-injective (loaded.Seats m) (loaded.Refused q) h = not-fine q _ (sym h)
-loadedAnswer-injective (loaded.Refused p) (loaded.Seats n) h = not-fine p _ h
-loadedAnswer-injective (loaded.Refused p) (loaded.Refused q) h = ap loaded.Refused (refused-injective p q h)
+pub one-saved : (x : Outcome) → One (Leaves savedAnswer x)
+one-saved = one-leaves (apart-by savedAnswer saved.Bytes saved.Refused (λ v. refl) (λ q. refl) saved-is)
 
--- no two results and outputs meet the promise of a save, nor two results and runs that of a load
-pub one-save : (w out : List ℕ) (r s : Saved) (o p : List ℕ) → outcome (savedAnswer r) o ≡ saveCall w out → outcome (savedAnswer s) p ≡ saveCall w out → (r ≡ s) × (o ≡ p)
-one-save w out = one-outcome savedAnswer savedAnswer-injective (saveCall w out)
+loaded-is : (r : Loaded) → OneOf loaded.Seats loaded.Refused r
+loaded-is (loaded.Seats n) = is-ok n
+loaded-is (loaded.Refused q) = is-no q
 
-pub one-load : (w bytes : List ℕ) (r s : Loaded) (o p : List ℕ) → outcome (loadedAnswer r) o ≡ loadCall w bytes → outcome (loadedAnswer s) p ≡ loadCall w bytes → (r ≡ s) × (o ≡ p)
-one-load w bytes = one-outcome loadedAnswer loadedAnswer-injective (loadCall w bytes)
+pub one-loaded : (x : Outcome) → One (Leaves loadedAnswer x)
+one-loaded = one-leaves (apart-by loadedAnswer loaded.Seats loaded.Refused (λ v. refl) (λ q. refl) loaded-is)

@@ -9,4 +9,4 @@ pub mod Words
 pub mod Walks
 -- Laws of answers.
 pub mod Numbers
-pub mod Decided
+pub mod One

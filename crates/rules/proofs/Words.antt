@@ -10,6 +10,7 @@ use lib.ListN.{length, take, drop, getD, set, length-take, length-drop, take-app
 use lib.Seq.{drop-drop, getD-take, getD-drop}
 use lib.Dec.{leb, eqb}
 use borrow.Author.Tests.{eq-eqb, le-leb, leb-true, eqb-true}
+use Rattle.promises.proofs.Decided.{both}
 use Rattle.rules.specs.Table.{_!_, Bare, Table, parts, joined, words, base, runLength, mostSeats, part, tableFor, tableOf, legal}
 use Rattle.rules.proofs.Parts.{All, none, more, set-joined, part-joined, All-set, length-joined, joined-with, All-with}
 
@@ -18,10 +19,6 @@ pub record Legal (w : List ℕ) : Type 0 where
   pub some : 1 ≤ w ! 0
   pub most : w ! 0 ≤ mostSeats
   pub size : length w ≡ runLength (w ! 0)
-
-pub both : (p q : Bool) → (p && q) ≡ true → (p ≡ true) × (q ≡ true)
-both true q e = (refl, e)
-both false q e = let z : _≡_ {A = ℕ} 0 1 = cc in absurd (omega arith)
 
 pub is-legal : (w : List ℕ) → legal w ≡ true → Legal w
 is-legal w e =

@@ -1,4 +1,5 @@
 -- Document 01, 'Numbers a call can answer'.
+use mathlib.Core.Path.{_≡_}
 use mathlib.Core.Bool.{Bool, cond}
 use mathlib.Core.List.{List, [], _∷_}
 use Prim.Native.Nat.{ℕ}
@@ -34,6 +35,17 @@ refused r = record { number = numberOf r; values = [] }
 pub record Outcome : Type 0 where
   pub answer : Answer
   pub after : List ℕ
+
+abbrev pub outcome : Answer → List ℕ → Outcome
+outcome x w = record { answer = x; after = w }
+
+-- the promise of a function whose result r `answer` reads: its number and values are x's
+abbrev pub Says : {R : Type 0} → (R → Answer) → Answer → R → Type 0
+Says answer x r = answer r ≡ x
+
+-- and where words or bytes are lent for writing: the result, and these after it
+abbrev pub Leaves : {R : Type 0} → (R → Answer) → Outcome → R × List ℕ → Type 0
+Leaves answer x o = outcome (answer (o .0)) (o .1) ≡ x
 
 -- a refusal leaves all lent memory unchanged
 abbrev pub refusedAt : List ℕ → Refusal → Outcome

@@ -5,5 +5,4 @@ pub mod History
 pub mod Keys
 pub mod Ids
 pub mod Answers
-pub mod Decides
 pub mod Examples

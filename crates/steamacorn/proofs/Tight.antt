@@ -3,13 +3,18 @@
 use mathlib.Core.Path.{_≡_, sym, _∙_}
 use mathlib.Core.List.{List}
 use Prim.Native.Nat.{ℕ}
+use Rattle.promises.specs.One.{One}
 use Rattle.rules.specs.Answers.{Answer, Outcome}
 use Rattle.steamacorn.specs.Exports.{Told, Changes}
 
-pub one-told : {x : Answer} {before : List ℕ} (r s : ℕ) (vs ws : List ℕ) → Told x r before vs → Told x s before ws → (r ≡ s) × (vs ≡ ws)
-one-told r s vs ws t u = (t .number ∙ sym (u .number), t .values-out ∙ sym (u .values-out))
+pub one-told : (x : Answer) (before : List ℕ) → One (Told x before)
+one-told x before o p t u =
+    let number = t .number ∙ sym (u .number) in
+    let values = t .values-out ∙ sym (u .values-out) in
+    λ i. (number i, values i)
 
-pub one-change : {o : Outcome} {before : List ℕ} (r s : ℕ) (w v vs ws : List ℕ) → Changes o r w before vs → Changes o s v before ws → (r ≡ s) × (vs ≡ ws) × (w ≡ v)
-one-change r s w v vs ws t u =
-    let d = one-told r s vs ws (t .told) (u .told) in
-    (d .0, d .1, t .leaves ∙ sym (u .leaves))
+pub one-change : (x : Outcome) (before : List ℕ) → One (Changes x before)
+one-change x before o p t u =
+    let told = one-told (x .answer) before (o .0, o .1) (p .0, p .1) (t .told) (u .told) in
+    let leaves = t .leaves ∙ sym (u .leaves) in
+    λ i. (told i .0, told i .1, leaves i)

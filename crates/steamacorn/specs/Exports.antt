@@ -10,12 +10,12 @@ use Rattle.rules.specs.Answers.{Answer, Outcome}
 abbrev pub values : Answer → List ℕ → List ℕ
 values x before = cond (eqb (x .number) 0) (x .values) before
 
--- the number r, and the lent values before and after
-pub record Told (x : Answer) (r : ℕ) (before after : List ℕ) : Type 0 where
-  pub number : r ≡ x .number
-  pub values-out : after ≡ values x before
+-- of the number, and the lent values after it
+pub record Told (x : Answer) (before : List ℕ) (o : ℕ × List ℕ) : Type 0 where
+  pub number : o .0 ≡ x .number
+  pub values-out : o .1 ≡ values x before
 
--- and the lent run or record after it
-pub record Changes (o : Outcome) (r : ℕ) (run before after : List ℕ) : Type 0 where
-  pub told : Told (o .answer) r before after
-  pub leaves : run ≡ o .after
+-- of the number, the lent values, and the lent run or record
+pub record Changes (x : Outcome) (before : List ℕ) (o : ℕ × List ℕ × List ℕ) : Type 0 where
+  pub told : Told (x .answer) before (o .0, o .1)
+  pub leaves : o .2 ≡ x .after

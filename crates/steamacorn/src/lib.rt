@@ -23,7 +23,7 @@ use rules::number;
 
 #[no_mangle]
 pub extern "C" fn steamacorn_open(table: &mut [u32], a: u32, ids: &[u32], n: &mut u32) -> u32
-    ensures { λ r. ⌜ Changes (openCall (now (table .entry)) a (now (ids .entry))) r (now (table .exit)) (now (n .entry) ∷ []) (now (n .exit) ∷ []) ⌝ }
+    ensures { λ r. ⌜ Changes (openCall (now (table .entry)) a (now (ids .entry))) (now (n .entry) ∷ []) (r, now (n .exit) ∷ [], now (table .exit)) ⌝ }
 {
     match open_table(table, a, ids) {
         Opened::Seats(used) => {
@@ -36,7 +36,7 @@ pub extern "C" fn steamacorn_open(table: &mut [u32], a: u32, ids: &[u32], n: &mu
 
 #[no_mangle]
 pub extern "C" fn steamacorn_seat(table: &mut [u32], id: u32, seat: &mut u32) -> u32
-    ensures { λ r. ⌜ Changes (seatCall (now (table .entry)) id) r (now (table .exit)) (now (seat .entry) ∷ []) (now (seat .exit) ∷ []) ⌝ }
+    ensures { λ r. ⌜ Changes (seatCall (now (table .entry)) id) (now (seat .entry) ∷ []) (r, now (seat .exit) ∷ [], now (table .exit)) ⌝ }
 {
     match seat_server(table, id) {
         Changed::At(b) => {
@@ -49,7 +49,7 @@ pub extern "C" fn steamacorn_seat(table: &mut [u32], id: u32, seat: &mut u32) ->
 
 #[no_mangle]
 pub extern "C" fn steamacorn_out(table: &mut [u32], id: u32, seat: &mut u32) -> u32
-    ensures { λ r. ⌜ Changes (outCall (now (table .entry)) id) r (now (table .exit)) (now (seat .entry) ∷ []) (now (seat .exit) ∷ []) ⌝ }
+    ensures { λ r. ⌜ Changes (outCall (now (table .entry)) id) (now (seat .entry) ∷ []) (r, now (seat .exit) ∷ [], now (table .exit)) ⌝ }
 {
     match take_out(table, id) {
         Changed::At(b) => {
@@ -68,7 +68,7 @@ pub extern "C" fn steamacorn_find(
     server: &mut u32,
     draws: &mut u32,
 ) -> u32
-    ensures { λ r. ⌜ Told (findCall (now (table .entry)) key) r (now (seat .entry) ∷ now (server .entry) ∷ now (draws .entry) ∷ []) (now (seat .exit) ∷ now (server .exit) ∷ now (draws .exit) ∷ []) ⌝ }
+    ensures { λ r. ⌜ Told (findCall (now (table .entry)) key) (now (seat .entry) ∷ now (server .entry) ∷ now (draws .entry) ∷ []) (r, now (seat .exit) ∷ now (server .exit) ∷ now (draws .exit) ∷ []) ⌝ }
 {
     match find_server(table, key) {
         Lookup::On(b, id, d) => {
@@ -83,7 +83,7 @@ pub extern "C" fn steamacorn_find(
 
 #[no_mangle]
 pub extern "C" fn steamacorn_audit(table: &[u32]) -> u32
-    ensures { λ r. ⌜ Told (auditCall (now (table .entry))) r [] [] ⌝ }
+    ensures { λ r. ⌜ Told (auditCall (now (table .entry))) [] (r, []) ⌝ }
 {
     match audit_table(table) {
         Audited::Sound => 0,
@@ -93,7 +93,7 @@ pub extern "C" fn steamacorn_audit(table: &[u32]) -> u32
 
 #[no_mangle]
 pub extern "C" fn steamacorn_save(table: &[u32], record: &mut [u8], bytes: &mut usize) -> u32
-    ensures { λ r. ⌜ Changes (saveCall (now (table .entry)) (now («record» .entry))) r (now («record» .exit)) (now (bytes .entry) ∷ []) (now (bytes .exit) ∷ []) ⌝ }
+    ensures { λ r. ⌜ Changes (saveCall (now (table .entry)) (now («record» .entry))) (now (bytes .entry) ∷ []) (r, now (bytes .exit) ∷ [], now («record» .exit)) ⌝ }
 {
     match save(table, record) {
         Saved::Bytes(written) => {
@@ -106,7 +106,7 @@ pub extern "C" fn steamacorn_save(table: &[u32], record: &mut [u8], bytes: &mut 
 
 #[no_mangle]
 pub extern "C" fn steamacorn_load(table: &mut [u32], record: &[u8], n: &mut u32) -> u32
-    ensures { λ r. ⌜ Changes (loadCall (now (table .entry)) (now («record» .entry))) r (now (table .exit)) (now (n .entry) ∷ []) (now (n .exit) ∷ []) ⌝ }
+    ensures { λ r. ⌜ Changes (loadCall (now (table .entry)) (now («record» .entry))) (now (n .entry) ∷ []) (r, now (n .exit) ∷ [], now (table .exit)) ⌝ }
 {
     match load(table, record) {
         Loaded::Seats(used) => {

@@ -10,7 +10,8 @@ use native.Mathlib.Decide.{decLt}
 use lib.Dec.{ltb, leb, eqb}
 use borrow.Author.Tests.{lt-ltb, le-ltb, le-leb, leb-true, eq-eqb, ne-eqb, eqb-true, eqb-false}
 use Rattle.lines.specs.Lines.{got, bad, isDigit, digits, zeroAlone, number, mostKey}
-use Rattle.lines.proofs.Got.{not-got, both, got-value, got-rest, number-got}
+use Rattle.promises.proofs.Decided.{both}
+use Rattle.lines.proofs.Got.{not-got, got-value, got-rest, number-got}
 use Rattle.transcript.specs.Printing.{decimalIn, decimal}
 use Rattle.transcript.specs.Opposites.{Parted, Prints, Opposites}
 

@@ -4,15 +4,16 @@ use mathlib.Core.Path.{_≡_, refl, sym, ap, ap₂, _∙_}
 use mathlib.Core.List.{List, [], _∷_, _++_, append-assoc, append-nil}
 use mathlib.Core.Logic.{_≢_}
 use Prim.Native.Nat.{ℕ, zero, suc, _+_, _*_, _-_, _<_, _≤_, max}
-use native.Mathlib.Numerals.{add-one}
 use native.Mathlib.Omega.{arith}
 use native.Mathlib.Decide.{decLt}
 use lib.ListN.{length, take, drop, length-append, length-drop, drop-of-length-le, take-append-drop}
-use lib.Seq.{drop-cons, drop-drop, length-take-le}
+use lib.Seq.{drop-drop, length-take-le}
 use borrow.Author.Tests.{eq-eqb, ne-eqb}
 use Rattle.io.specs.Counts.{Counts}
+use Rattle.promises.specs.One.{One}
 use Rattle.rules.specs.Table.{_!_}
 use Rattle.rules.specs.Answers.{Answer, Outcome}
+use Rattle.lines.proofs.Digits.{byte}
 use Rattle.lines.specs.Lines.{joins, linesOf, commandOf}
 use Rattle.transcript.specs.Printing.{printed}
 use Rattle.transcript.specs.Transcript.{respond, replies}
@@ -21,9 +22,6 @@ use Rattle.transcript.specs.declared.Reply.{Reply}
 use Rattle.transcript.proofs.Stored.{put-front, put-behind, put-length}
 
 module _ (s : List ℕ) where
-  byte : (at : ℕ) → at < length s → drop at s ≡ s ! at ∷ drop (at + 1) s
-  byte at h = drop-cons s at 0 h ∙ ap (λ (n : ℕ). s ! at ∷ drop n s) (sym (add-one at))
-
   -- the line of d bytes at `at`
   line-split : (d at : ℕ) → at < length s → at + d ≤ length s → ((k : ℕ) → at ≤ k → k < at + d → s ! k ≢ 10) → (at + d < length s → s ! (at + d) ≡ 10)
       → linesOf (drop at s) ≡ take d (drop at s) ∷ linesOf (drop (at + d + 1) s)
@@ -31,17 +29,17 @@ module _ (s : List ℕ) where
   line-split zero at h l f e =
       let z : at + 0 ≡ at = omega arith in
       let lf : s ! at ≡ 10 = rw z at (e (omega arith)) in
-      rw (z, byte at h, eq-eqb (s ! at) 10 lf) refl
+      rw (z, byte s at h, eq-eqb (s ! at) 10 lf) refl
   line-split (suc d) at h l f e = elim (decLt (at + 1) (length s)) [
     | yes m ↦
         let j : at + 1 + d ≡ at + suc d = omega arith in
         let rest = line-split d (at + 1) m (omega arith) (λ k p q. f k (omega arith) (omega arith)) (λ p. ap (λ (n : ℕ). s ! n) j ∙ e (omega arith)) in
-        rw (byte at h, ne-eqb (s ! at) 10 (f at (omega arith) (omega arith)), rest, j) refl
+        rw (byte s at h, ne-eqb (s ! at) 10 (f at (omega arith) (omega arith)), rest, j) refl
     | no m ↦
         let z : d ≡ 0 = omega arith in
         let n₁ : drop (at + 1) s ≡ [] = drop-of-length-le s {i = at + 1} (omega arith) in
         let n₂ : drop (at + suc d + 1) s ≡ [] = drop-of-length-le s {i = at + suc d + 1} (omega arith) in
-        rw (byte at h, ne-eqb (s ! at) 10 (f at (omega arith) (omega arith)), n₁, n₂, z) refl
+        rw (byte s at h, ne-eqb (s ! at) 10 (f at (omega arith) (omega arith)), n₁, n₂, z) refl
   ]
 
   pub lines-more : (at r : ℕ) → at < length s → Ends s at r → linesOf (drop at s) ≡ take (r - at) (drop at s) ∷ linesOf (drop (r + 1) s)
@@ -105,7 +103,7 @@ module _ (input out₀ out t t′ : List ℕ) (len len′ at i end : ℕ) (r : R
             text = text-more;
           }
 
-pub so-ends : (input out₀ out t : List ℕ) (len at i : ℕ) → So input out₀ out t len at i → length input ≤ i → Written (replies [] (linesOf input)) at out₀ out
+pub so-ends : (input out₀ out t : List ℕ) (len at i : ℕ) → So input out₀ out t len at i → length input ≤ i → Written (replies [] (linesOf input)) out₀ (at, out)
 unfolding replies linesOf
 so-ends input out₀ out t len at i so h =
     let all : take at out ≡ replies [] (linesOf input) = sym (append-nil (take at out)) ∙ ap (λ (l : List ℕ). take at out ++ replies (tableIn len t) (linesOf l)) (sym (drop-of-length-le input h)) ∙ so .text in
@@ -115,7 +113,7 @@ so-ends input out₀ out t len at i so h =
     }
 
 -- what stands alone at the front is all that is written
-pub put-written : (l₀ l₁ : List ℕ) (to : ℕ) (bs : List ℕ) → Put l₀ l₁ 0 to bs → length bs ≤ length l₀ → Written bs to l₀ l₁
+pub put-written : (l₀ l₁ : List ℕ) (to : ℕ) (bs : List ℕ) → Put l₀ l₁ 0 to bs → length bs ≤ length l₀ → Written bs l₀ (to, l₁)
 put-written l₀ l₁ to bs p h =
     let f : 0 + length bs ≤ length l₀ = omega arith in
     record {
@@ -123,13 +121,14 @@ put-written l₀ l₁ to bs p h =
       bytes = sym (take-append-drop to l₁) ∙ ap₂ (λ (x y : List ℕ). x ++ y) (put-front l₀ l₁ 0 to bs p f) (put-behind l₀ l₁ 0 to bs p f);
     }
 
-pub written-counts : {text before after : List ℕ} {r : ℕ} → Written text r before after → Counts r after
+pub written-counts : {text before after : List ℕ} {r : ℕ} → Written text before (r, after) → Counts r after
 written-counts {text} {before} {after} {r} w =
     let h : r ≤ length after = omega (arith, w .count, ap length (w .bytes), length-append text (drop r before)) in
     (h, sym (length-take-le r after h))
 
 -- the promise of `run` leaves one outcome
-pub one-written : {text before : List ℕ} (r s : ℕ) (after other : List ℕ) → Written text r before after → Written text s before other → (r ≡ s) × (after ≡ other)
-one-written {text} {before} r s after other w v =
-    let same : r ≡ s = w .count ∙ sym (v .count) in
-    (same, w .bytes ∙ ap (λ (n : ℕ). text ++ drop n before) same ∙ sym (v .bytes))
+pub one-written : (text before : List ℕ) → One (Written text before)
+one-written text before o p w v =
+    let count = w .count ∙ sym (v .count) in
+    let bytes = w .bytes ∙ ap (λ (n : ℕ). text ++ drop n before) count ∙ sym (v .bytes) in
+    λ i. (count i, bytes i)

@@ -47,7 +47,7 @@ pub record Lent (input t ids out : List ℕ) : Type 0 where
   pub list : length input ≤ 2 * length ids
   pub room : 6 * length input ≤ length out
 
--- the text is written, r bytes long, and the rest of the output is as it was
-pub record Written (text : List ℕ) (r : ℕ) (before after : List ℕ) : Type 0 where
-  pub count : r ≡ length text
-  pub bytes : after ≡ text ++ drop r before
+-- the text's length, and the output after it: the text is written, and the rest is as it was
+pub record Written (text before : List ℕ) (o : ℕ × List ℕ) : Type 0 where
+  pub count : o .0 ≡ length text
+  pub bytes : o .1 ≡ text ++ drop (o .0) before

@@ -226,7 +226,7 @@ fn line_end(s: &[u8], at: usize) -> usize
 // Line by line. The table begins empty.
 fn run_lines(input: &[u8], t: &mut [u32], ids: &mut [u32], out: &mut [u8]) -> usize
     requires { ⌜ Lent (now input) (now t) (now ids) (now out) ⌝ }
-    ensures { λ r. ⌜ Written (replies [] (linesOf (now (input .entry)))) r (now (out .entry)) (now (out .exit)) ⌝ }
+    ensures { λ r. ⌜ Written (replies [] (linesOf (now (input .entry)))) (now (out .entry)) (r, now (out .exit)) ⌝ }
 {
     let mut len: usize = 0;
     let mut at: usize = 0;
@@ -244,7 +244,7 @@ fn run_lines(input: &[u8], t: &mut [u32], ids: &mut [u32], out: &mut [u8]) -> us
 
 // From the input's bytes to the output's, and how many those are.
 pub fn run(input: &[u8], out: &mut [u8; 24576]) -> usize
-    ensures { λ r. ⌜ Written (transcript (now (input .entry))) r (now (out .entry)) (now (out .exit)) ⌝ }
+    ensures { λ r. ⌜ Written (transcript (now (input .entry))) (now (out .entry)) (r, now (out .exit)) ⌝ }
     ensures { λ r. ⌜ Counts r (now (out .exit)) ⌝ }
 {
     if 4096 < input.len() {

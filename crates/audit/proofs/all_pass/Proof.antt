@@ -5,7 +5,7 @@ use mathlib.Core.Path.{_≡_}
 use borrow.Author.Needs.{needs}
 use Prim.Native.Nat.{_≤_, _-_}
 use Rattle.rules.specs.Table.{tableFor}
-use Rattle.rules.specs.Decides.{Decides}
+use Rattle.promises.specs.Decides.{Decides}
 use Rattle.audit.specs.Pass.{AllPass}
 use Rattle.audit.proofs.Decisions.{pass-none, pass-more}
 use Rattle.audit.proofs.all_pass.Statement.{statement}

@@ -7,7 +7,7 @@ use Rattle.rules.specs.Ids.{repeats}
 use Rattle.parts.specs.Shape.{sizeOf}
 use Rattle.parts.specs.declared.Size.the-variants.{Seats}
 use Rattle.parts.proofs.Sized.{illegal}
-use Rattle.rules.proofs.Decided.{decides-true, decides-false}
+use Rattle.promises.proofs.Decided.{decides-true, decides-false}
 use Rattle.audit.proofs.Answers.{audit-size, long, shape, counted, none-used, more-used, one-fails, id-twice, all-well}
 use Rattle.audit.proofs.audit_table.Statement.{statement}
 use Rattle.audit.proofs.audit_table.Tie as tie

@@ -4,8 +4,8 @@ use native.Mathlib.Omega.{arith}
 use borrow.Author.Needs.{needs}
 use mathlib.Core.Path.{_≡_}
 use Prim.Native.Nat.{_-_, _≤_}
-use Rattle.rules.specs.Decides.{Decides}
-use Rattle.rules.proofs.Decided.{decides-more}
+use Rattle.promises.specs.Decides.{Decides}
+use Rattle.promises.proofs.Decided.{decides-more}
 use Rattle.saved.specs.Fits.{New, AllNew}
 use Rattle.form.proofs.all_new.Statement.{statement}
 use Rattle.form.proofs.all_new.Tie as tie

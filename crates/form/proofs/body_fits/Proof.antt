@@ -1,7 +1,7 @@
 -- `form::body_fits` meets its contract: the removals, the seats in use and the servers are tested in turn.
 -- Assumes nothing.
 use borrow.Author.Needs.{needs}
-use Rattle.rules.proofs.Decided.{decides-true, decides-false}
+use Rattle.promises.proofs.Decided.{decides-true, decides-false}
 use Rattle.form.proofs.Notes.{outs-yes, outs-no}
 use Rattle.form.proofs.Told.{ins-room, body-told, body-ins}
 use Rattle.form.proofs.body_fits.Statement.{statement}

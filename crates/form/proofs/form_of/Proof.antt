@@ -3,7 +3,7 @@
 use native.Mathlib.Omega.{arith}
 use borrow.Author.Needs.{needs}
 use mathlib.Core.Path.{subst}
-use Rattle.rules.proofs.Decided.{decides-true, decides-false}
+use Rattle.promises.proofs.Decided.{decides-true, decides-false}
 use Rattle.saved.specs.Fits.{HeadFits}
 use Rattle.form.specs.Tests.{HeadTold}
 use Rattle.form.proofs.Told.{bad-head, bad-body, good}

@@ -3,7 +3,7 @@
 use native.Mathlib.Omega.{arith}
 use borrow.Author.Needs.{needs}
 use mathlib.Core.Path.{sym, _∙_}
-use Rattle.rules.proofs.Decided.{decides-true, decides-false}
+use Rattle.promises.proofs.Decided.{decides-true, decides-false}
 use Rattle.form.proofs.in_fits.Statement.{statement}
 use Rattle.form.proofs.in_fits.Tie as tie
 

@@ -9,7 +9,7 @@ use Prim.Native.Nat.{ℕ, _+_, _-_, _≤_}
 use native.Mathlib.Numerals.{add-one}
 use lib.ListN.{length}
 use Rattle.rules.specs.Table.{_!_}
-use Rattle.rules.proofs.Decided.{decides-true, decides-false}
+use Rattle.promises.proofs.Decided.{decides-true, decides-false}
 use Rattle.saved.specs.Reader.{rank, inAt}
 use Rattle.saved.specs.Fits.{InFits, AllIn}
 use Rattle.saved.proofs.Ranks.{rank-used, rank-out, rank-below}

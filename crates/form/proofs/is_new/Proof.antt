@@ -5,8 +5,8 @@ use borrow.Author.Needs.{needs}
 use mathlib.Core.Path.{_≡_}
 use mathlib.Core.Logic.{_≢_}
 use Prim.Native.Nat.{ℕ, _-_, _<_, _≤_}
-use Rattle.rules.specs.Decides.{Decides}
-use Rattle.rules.proofs.Decided.{decides-more, decides-other}
+use Rattle.promises.specs.Decides.{Decides}
+use Rattle.promises.proofs.Decided.{decides-more, decides-other}
 use Rattle.saved.specs.Reader.{serverAt}
 use Rattle.form.proofs.is_new.Statement.{statement}
 use Rattle.form.proofs.is_new.Tie as tie

@@ -5,7 +5,7 @@ use borrow.Author.Needs.{needs}
 use mathlib.Core.Path.{ap, _∙_}
 use Prim.Native.Nat.{ℕ}
 use Rattle.rules.specs.Table.{_!_}
-use Rattle.rules.proofs.Decided.{decides-true, decides-false}
+use Rattle.promises.proofs.Decided.{decides-true, decides-false}
 use Rattle.saved.specs.Reader.{bareFrom}
 use Rattle.form.proofs.Notes.{noted-used, noted-out, leaves-next, leaves-below, noted-more}
 use Rattle.form.proofs.note_out.Statement.{statement}

@@ -3,7 +3,8 @@
 use borrow.Author.Needs.{needs}
 use mathlib.Core.Path.{sym, ap, _∙_}
 use Rattle.changes.specs.declared.Opened.{Opened}
-use Rattle.changes.specs.Calls.{openedAnswer, outcome}
+use Rattle.rules.specs.Answers.{outcome}
+use Rattle.changes.specs.Calls.{openedAnswer}
 use Rattle.steamacorn.proofs.Tell.{leaves-fine, leaves-refused}
 use Rattle.steamacorn.proofs.steamacorn_open.Statement.{statement}
 use Rattle.steamacorn.proofs.steamacorn_open.Tie as tie

@@ -1,18 +1,26 @@
 -- What is known once a test has answered.
 -- Assumes nothing.
 use mathlib.Core.Path.{_≡_, refl}
-use mathlib.Core.Bool.{Bool, true, false, not, _&&_}
+use mathlib.Core.Bool.{Bool, true, false, not, _&&_, _||_}
 use mathlib.Core.Logic.{_≢_}
 use Prim.Native.Nat.{ℕ, _+_, _<_}
 use native.Mathlib.Omega.{arith}
 use borrow.Author.Count.{below-more}
 use borrow.Author.Tests.{eqb-true, eqb-false}
 use lib.Dec.{eqb}
-use Rattle.rules.specs.Decides.{Decides, decided}
+use Rattle.promises.specs.Decides.{Decides, decided}
 
 -- no Bool is both
 pub true-or-false : {P : Type 0} (t : Bool) → t ≡ true → t ≡ false → P
 true-or-false t p q = let z : _≡_ {A = ℕ} 0 1 = cc in absurd (omega arith)
+
+pub both : (p q : Bool) → (p && q) ≡ true → (p ≡ true) × (q ≡ true)
+both true q e = (refl, e)
+both false q e = true-or-false false e refl
+
+pub neither : (p q : Bool) → (p || q) ≡ false → (p ≡ false) × (q ≡ false)
+neither true q e = true-or-false true refl e
+neither false q e = (refl, e)
 
 -- what a test's answer says
 pub decides-true : {P : Type 0} (t : Bool) → t ≡ true → Decides t P → P

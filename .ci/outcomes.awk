@@ -1,0 +1,66 @@
+# A line for each pub fn of the sources that are read: CRATE FN NAME. NAME is the predicate that its first `ensures` says of the whole outcome, which is its
+# answer and whatever is lent for writing: `≡` with what it is equal to, `Decides` with the statement, another with what it is said of. Where the first
+# `ensures` has another form, or says something of a part of the outcome alone, NAME is '?' and the promise follows.
+/^ *pub (extern "C" )?fn / { text = ""; inside = 1 }
+inside && /^ *\{$/ { tell(text); inside = 0 }
+inside { text = text " " $0 }
+
+# what is lent for writing, and the answer
+function outcome(signature,    rest, name) {
+    split("", parts)
+    count = 0
+    if (signature ~ /-> &/) parts[++count] = "now r"
+    else if (signature ~ /->/) parts[++count] = "r"
+    rest = signature
+    while (match(rest, /[a-z_]+: &mut /)) {
+        name = substr(rest, RSTART, index(substr(rest, RSTART), ":") - 1)
+        if (name == "record") name = "«record»" # a word of the specifications' language
+        parts[++count] = "now (" name " .exit)"
+        rest = substr(rest, RSTART + RLENGTH)
+    }
+}
+
+# does it name all of the outcome; does it name any
+function all(said,    i) {
+    for (i = 1; i <= count; i++) if (!index(" " said " ", parts[i])) return 0
+    return count > 0
+}
+function any(said) {
+    return index(said, ".exit") || said ~ /(^|[^A-Za-z_.])r([^A-Za-z_]|$)/
+}
+
+function tell(text,    path, fn, at, signature, promise) {
+    split(FILENAME, path, "/")
+    fn = text
+    sub(/^ *pub (extern "C" )?fn /, "", fn)
+    sub(/[(<].*/, "", fn)
+    at = index(text, " ensures ")
+    signature = at ? substr(text, 1, at) : text
+    sub(/ requires .*/, "", signature)
+    outcome(signature)
+    promise = at ? substr(text, at) : "⌜ no promise ⌝"
+    promise = substr(promise, index(promise, "⌜") + length("⌜ "))
+    promise = substr(promise, 1, index(promise, " ⌝") - 1)
+    print path[1], fn, shape(promise)
+}
+
+function shape(promise,    at, left, right, name) {
+    at = index(promise, " ≡ ")
+    left = substr(promise, 1, at - 1)
+    right = substr(promise, at + length(" ≡ "))
+    if (at && count == 1 && left == parts[1] && !any(right)) return "≡"
+    name = promise
+    sub(/ .*/, "", name)
+    left = promise
+    if (sub(/^Decides r /, "", left)) return count == 1 && !any(left) ? "Decides" : "? " promise
+    # the outcome is the last that the predicate is given
+    if (match(promise, / \(r, .*\)$/) || match(promise, / \(now r\)$/) || match(promise, / r$/)) {
+        right = substr(promise, RSTART)
+        left = substr(promise, 1, RSTART - 1)
+        if (promise ~ /^[A-Z]/ && all(right) && !any(left)) {
+            if (left ~ /^(Says|Leaves) [A-Za-z]+ /) { match(left, /^(Says|Leaves) [A-Za-z]+/); return substr(left, 1, RLENGTH) }
+            return name
+        }
+    }
+    return "? " promise
+}
