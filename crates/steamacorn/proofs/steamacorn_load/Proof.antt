@@ -1,10 +1,7 @@
 -- `steamacorn::steamacorn_load` meets its contract: it tells what the call answered.
 -- Assumes nothing.
 use borrow.Author.Needs.{needs}
-use mathlib.Core.Path.{sym, ap, _∙_}
-use Rattle.rules.specs.Answers.{outcome}
-use Rattle.changes.specs.Calls.{}
-use Rattle.record.specs.declared.Loaded.{Loaded}
+use mathlib.Core.Path.{refl}
 use Rattle.record.specs.Calls.{loadedAnswer}
 use Rattle.steamacorn.proofs.Tell.{leaves-fine, leaves-refused}
 use Rattle.steamacorn.proofs.steamacorn_load.Statement.{statement}
@@ -14,13 +11,13 @@ returns : tie.Need-returns
 returns c =
     let k = c .before in
     let r = c .before .before .before .before .before in
-    leaves-fine _ _ (r .load .last .0) _ (ap (λ (x : Loaded). outcome (loadedAnswer x) (r .load .last .0)) (sym (k .used .given .1)) ∙ r .load .ensures)
+    leaves-fine loadedAnswer (k .used .given .1) _ _ _ _ refl (r .load .ensures)
 
 returns-2 : tie.Need-returns-2
 returns-2 c =
     let k = c .before .before in
     let r = c .before .before .before .before .before .before in
-    leaves-refused _ (k .why .given .0 .0) _ (r .load .last .0) _ (ap (λ (x : Loaded). outcome (loadedAnswer x) (r .load .last .0)) (sym (k .why .given .1)) ∙ r .load .ensures) (c .number .ensures)
+    leaves-refused loadedAnswer (k .why .given .1) _ _ (k .why .given .0 .0) _ _ refl (c .number .ensures) (r .load .ensures)
 
 pub steamacorn-load-spec : {M : Type 1} → statement M
 steamacorn-load-spec = tie.close (tie.spec (λ c κs. search needs) (λ c. search needs) (λ c. search needs) (λ c κs. search needs) (λ c. search needs) returns (λ c. search needs) returns-2)
