@@ -3,7 +3,7 @@ use mathlib.Core.List.{List, [], _∷_, _++_}
 use Prim.Native.Nat.{ℕ}
 use Rattle.rules.specs.Table.{_!_, Bare, Table}
 use Rattle.rules.specs.Changes.{count, opened, lastOut}
-use Rattle.rules.specs.History.{Change, taking, seating, run}
+use Rattle.rules.specs.History.{Opens, Change, taking, seating, run, Accepted}
 use Rattle.rules.specs.Keys.{full, line, movesOf, since, draw, setRule, Looked, found, damaged, walk, lookup, arrayRule}
 
 -- a table of a seats, opened all in use with the ids 11, 12, .., and a history from there
@@ -18,6 +18,24 @@ h2 = h1 ++ (taking 11 0 ∷ [])
 
 abbrev pub h3 : List Change
 h3 = h2 ++ (taking 15 4 ∷ [])
+
+-- E8's, E10's and E11's
+abbrev pub h8 : List Change
+h8 = h3 ++ (seating 99 4 ∷ [])
+
+abbrev pub h10 : List Change
+h10 = taking 11 0 ∷ []
+
+abbrev pub h11 : List Change
+h11 = taking 13 2 ∷ []
+
+-- document 01 accepts the opening, and each change in its turn
+pub record Happens (a : ℕ) (h : List Change) : Type 0 where
+  pub opens : Opens a (count a 11)
+  pub accepted : Accepted (opened a (count a 11)) h
+
+abbrev pub AllHappen : Type 0
+AllHappen = Happens 7 h1 × Happens 7 h2 × Happens 7 h3 × Happens 7 h8 × Happens 1 [] × Happens 2 h10 × Happens 3 h11
 
 -- position p as it stood after seat b was taken out, in E3's state
 abbrev pub stood : ℕ → ℕ → ℕ
@@ -50,8 +68,8 @@ examples =
     let E1 = after 7 h1 .bare in
     let E2 = after 7 h2 .bare in
     let E3 = after 7 h3 .bare in
-    let E8 = after 7 (h3 ++ (seating 99 4 ∷ [])) .bare in
-    let E11 = after 3 (taking 13 2 ∷ []) .bare in
+    let E8 = after 7 h8 .bare in
+    let E11 = after 3 h11 .bare in
     -- E1
     case (E1 .A ∷ line E1 ∷ [])
     ((0 ∷ 4 ∷ 0 ∷ 0 ∷ 0 ∷ 5 ∷ 6 ∷ []) ∷ (0 ∷ 4 ∷ 2 ∷ 3 ∷ []) ∷ [])
@@ -69,7 +87,7 @@ examples =
     -- E9
     ∷ case (both 1 [] 0 0) ((0 ∷ 1 ∷ []) ∷ (0 ∷ 1 ∷ []) ∷ [])
     -- E10
-    ∷ case (both 2 (taking 11 0 ∷ []) 0 0) ((1 ∷ 2 ∷ []) ∷ (1 ∷ 2 ∷ []) ∷ [])
+    ∷ case (both 2 h10 0 0) ((1 ∷ 2 ∷ []) ∷ (1 ∷ 2 ∷ []) ∷ [])
     -- E11
     ∷ case ((E11 .A ! 2 ∷ []) ∷ (E11 .K ! 2 ∷ []) ∷ (E11 .L ! 2 ∷ []) ∷ line E11 ∷ []) ((2 ∷ []) ∷ (2 ∷ []) ∷ (2 ∷ []) ∷ (0 ∷ 1 ∷ []) ∷ [])
     ∷ []

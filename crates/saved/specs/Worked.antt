@@ -24,7 +24,7 @@ abbrev pub fifty : List ℕ
 fifty = front ++ seat0 ++ seat2 ++ seat3 ++ seat4
 
 abbrev pub Worked : Type 0
-Worked = recordOf (after 7 h1) ≡ fifty
+Worked = (recordOf (after 7 h1) ≡ fifty) × IsRecord fifty
 
 -- with its seats in use descending it is no record of any sound table
 abbrev pub descending : List ℕ
