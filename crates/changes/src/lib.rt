@@ -14,6 +14,7 @@ use ids::place_in;
 use ids::repeats_in;
 use layout::lay_out;
 use parts::MOST_SEATS;
+use parts::PARTS;
 use parts::clear_r;
 use parts::get_l;
 use parts::get_r;
@@ -26,6 +27,7 @@ use parts::set_n;
 use parts::set_r;
 use parts::set_s;
 use parts::set_w;
+use parts::start;
 use rules::Position;
 use rules::Refusal;
 use rules::Seat;
@@ -150,7 +152,7 @@ pub fn open_table(t: &mut [u32], a: u32, ids: &[u32]) -> Opened
     if MOST_SEATS < seats {
         return Opened::Refused(Refusal::Size);
     }
-    if t.len() != 2 + 6 * seats {
+    if t.len() != start(seats, PARTS) {
         return Opened::Refused(Refusal::Size);
     }
     if ids.len() < 1 {

@@ -1,7 +1,7 @@
 -- The parts of an opening, laid out one after the other, are its words.
 -- Assumes nothing.
 use mathlib.Core.Path.{_≡_, refl, sym, ap, _∙_}
-use mathlib.Core.List.{List, [], _∷_}
+use mathlib.Core.List.{List, [], _∷_, _++_}
 use Prim.Native.Nat.{ℕ, _+_, _-_, _<_, _≤_}
 use native.Mathlib.Omega.{arith}
 use lib.ListN.{length, take, drop, set, length-take, length-drop, length-set}
@@ -14,9 +14,12 @@ use Rattle.rules.proofs.Words.{Holds, holds-table, holds-with, holds-count}
 use Rattle.layout.specs.Layout.{openA, openR, openS, withPart, openBare}
 use Rattle.layout.proofs.Filling.{length-openA, length-openR, length-openS}
 
--- a part that is lent has a words
-pub lent-length : (w : List ℕ) (a k : ℕ) → base a k + a ≤ length w → length (take (base a k + a - base a k) (drop (base a k) w)) ≡ a
-lent-length w a k h = simp (length-take, length-drop) (omega arith)
+-- part k is lent from lo on, and filled by its length
+pub part-filled : (full : ℕ → List ℕ) (w new : List ℕ) (a k lo : ℕ) → lo ≡ base a k → base a k + a ≤ length w → new ≡ full (length (take (lo + a - lo) (drop lo w)))
+    → take lo w ++ (new ++ drop (lo + a - lo) (drop lo w)) ≡ withPart a k (full a) w
+part-filled full w new a k lo at h e =
+    let long : length (take (lo + a - lo) (drop lo w)) ≡ a = simp (length-take, length-drop) (omega arith) in
+    rw (e, long, at) refl
 
 pub part-long : (w : List ℕ) (a k : ℕ) → base a k + a ≤ length w → length (part a k w) ≡ a
 part-long w a k h = simp (length-take, length-drop) (omega arith)

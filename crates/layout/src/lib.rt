@@ -1,22 +1,23 @@
 // Lays out the words of an opening in a lent run, part by part.
 ghost use mathlib.Core.Path.{_≡_};
-ghost use Prim.Native.Nat.{_+_, _<_, _≤_};
+ghost use Prim.Native.Nat.{_+_, _<_, _≤_, _^_};
 ghost use lib.ListN.{length, set};
 ghost use Rattle.rules.specs.Table.{Table, base, words, tableFor};
 ghost use Rattle.rules.specs.Changes.{count, opened};
 ghost use Rattle.parts.specs.Shape.{Shape};
 ghost use Rattle.layout.specs.Layout.{firstA, firstR, firstS, openA, openR, openS, withPart, openBare};
+use parts::start;
 
 // What opening with w ids writes for seat i in A, for entry i of R of a seats, and for seat i in S.
 fn first_a(w: usize, i: usize) -> u32
-    requires { ⌜ i < 65536 ⌝ }
+    requires { ⌜ i < 2 ^ 32 ⌝ }
     ensures { λ r. ⌜ r ≡ firstA w i ⌝ }
 {
     if i < w { 0 } else { i as u32 }
 }
 
 fn first_r(a: usize, w: usize, i: usize) -> u32
-    requires { ⌜ (i < a) × (w ≤ a) × (a ≤ 65536) ⌝ }
+    requires { ⌜ (i < a) × (w ≤ a) × (a ≤ 2 ^ 32) ⌝ }
     ensures { λ r. ⌜ r ≡ firstR a w i ⌝ }
 {
     if i < a - w { (a - 1 - i) as u32 } else { 0 }
@@ -29,7 +30,7 @@ fn first_s(ids: &[u32], i: usize) -> u32
 }
 
 fn fill_a(part: &mut [u32], w: usize)
-    requires { ⌜ (length (now part) ≤ 65536) × (w ≤ length (now part)) ⌝ }
+    requires { ⌜ (length (now part) ≤ 2 ^ 32) × (w ≤ length (now part)) ⌝ }
     ensures { λ _. ⌜ now (part .exit) ≡ openA (length (now (part .entry))) w ⌝ }
 {
     let mut i: usize = 0;
@@ -41,7 +42,7 @@ fn fill_a(part: &mut [u32], w: usize)
 
 // b at b: in K each seat's own number, in W and L the line of all seats.
 fn fill_own(part: &mut [u32])
-    requires { ⌜ length (now part) ≤ 65536 ⌝ }
+    requires { ⌜ length (now part) ≤ 2 ^ 32 ⌝ }
     ensures { λ _. ⌜ now (part .exit) ≡ count (length (now (part .entry))) 0 ⌝ }
 {
     let mut i: usize = 0;
@@ -52,7 +53,7 @@ fn fill_own(part: &mut [u32])
 }
 
 fn fill_r(part: &mut [u32], w: usize)
-    requires { ⌜ (length (now part) ≤ 65536) × (w ≤ length (now part)) ⌝ }
+    requires { ⌜ (length (now part) ≤ 2 ^ 32) × (w ≤ length (now part)) ⌝ }
     ensures { λ _. ⌜ now (part .exit) ≡ openR (length (now (part .entry))) w ⌝ }
 {
     let a = part.len();
@@ -79,7 +80,7 @@ fn open_a(t: &mut [u32], a: usize, w: usize)
     requires { ⌜ (Shape (now t) a) × (w ≤ a) ⌝ }
     ensures { λ _. ⌜ now (t .exit) ≡ withPart a 0 (openA a w) (now (t .entry)) ⌝ }
 {
-    let lo = 2 + parts::A * a;
+    let lo = start(a, parts::A);
     fill_a(&mut t[lo..lo + a], w);
 }
 
@@ -87,7 +88,7 @@ fn open_own(t: &mut [u32], a: usize, k: usize)
     requires { ⌜ (Shape (now t) a) × (base a k + a ≤ length (now t)) ⌝ }
     ensures { λ _. ⌜ now (t .exit) ≡ withPart a k (count a 0) (now (t .entry)) ⌝ }
 {
-    let lo = 2 + k * a;
+    let lo = start(a, k);
     fill_own(&mut t[lo..lo + a]);
 }
 
@@ -95,7 +96,7 @@ fn open_r(t: &mut [u32], a: usize, w: usize)
     requires { ⌜ (Shape (now t) a) × (w ≤ a) ⌝ }
     ensures { λ _. ⌜ now (t .exit) ≡ withPart a 4 (openR a w) (now (t .entry)) ⌝ }
 {
-    let lo = 2 + parts::R * a;
+    let lo = start(a, parts::R);
     fill_r(&mut t[lo..lo + a], w);
 }
 
@@ -103,7 +104,7 @@ fn open_s(t: &mut [u32], a: usize, ids: &[u32])
     requires { ⌜ (Shape (now t) a) × (length (now ids) ≤ a) ⌝ }
     ensures { λ _. ⌜ now (t .exit) ≡ withPart a 5 (openS a (now (ids .entry))) (now (t .entry)) ⌝ }
 {
-    let lo = 2 + parts::S * a;
+    let lo = start(a, parts::S);
     fill_s(&mut t[lo..lo + a], ids);
 }
 

@@ -1,6 +1,6 @@
 // The parts of a lent run: its shape, and reads and stores in each part, with seats and positions kept apart.
 ghost use mathlib.Core.Path.{_≡_};
-ghost use Prim.Native.Nat.{_+_, _<_, _≤_};
+ghost use Prim.Native.Nat.{_+_, _<_, _≤_, _^_};
 ghost use lib.ListN.{length, set};
 ghost use Rattle.rules.specs.Table.{_!_, base, part, tableFor};
 ghost use Rattle.parts.specs.Shape.{sizeOf, Shape, Lent, Lends, IsSeat, IsPosition};
@@ -22,6 +22,22 @@ pub const R: usize = 4;
 
 pub const S: usize = 5;
 
+pub const PARTS: usize = 6;
+
+// The words before the parts: a and N.
+pub const FRONT: usize = 2;
+
+// The words of the longest run.
+pub const MOST_WORDS: usize = FRONT + PARTS * MOST_SEATS;
+
+// Where part k of a run for a seats begins. The run ends where one more part would.
+pub fn start(a: usize, k: usize) -> usize
+    requires { ⌜ base a k < 2 ^ 64 ⌝ }
+    ensures { λ r. ⌜ r ≡ base a k ⌝ }
+{
+    FRONT + k * a
+}
+
 pub enum Size {
     Seats(usize),
     Illegal,
@@ -31,7 +47,7 @@ pub enum Size {
 pub fn size_of(t: &[u32]) -> Size
     ensures { λ r. ⌜ r ≡ sizeOf (now (t .entry)) ⌝ }
 {
-    if t.len() < 2 {
+    if t.len() < FRONT {
         return Size::Illegal;
     }
     let a = t[0] as usize;
@@ -41,7 +57,7 @@ pub fn size_of(t: &[u32]) -> Size
     if MOST_SEATS < a {
         return Size::Illegal;
     }
-    if t.len() == 2 + 6 * a {
+    if t.len() == start(a, PARTS) {
         Size::Seats(a)
     } else {
         Size::Illegal
@@ -60,7 +76,7 @@ pub fn lend(t: &[u32], a: usize, k: usize) -> &[u32]
     requires { ⌜ base a k + a ≤ length (now t) ⌝ }
     ensures { λ r. ⌜ Lends (now (t .entry)) a k (now r) ⌝ }
 {
-    let lo = 2 + k * a;
+    let lo = start(a, k);
     &t[lo..lo + a]
 }
 
@@ -78,7 +94,7 @@ fn put(t: &mut [u32], a: usize, k: usize, i: usize, v: u32)
     requires { ⌜ Lent (now t) a k i ⌝ }
     ensures { λ _. ⌜ now (t .exit) ≡ set (now (t .entry)) (base a k + i) v ⌝ }
 {
-    let lo = 2 + k * a;
+    let lo = start(a, k);
     put_at(&mut t[lo..lo + a], i, v);
 }
 

@@ -31,10 +31,12 @@ use form::Form;
 use form::form_of;
 use form::server_at;
 use layout::lay_bare;
+use parts::PARTS;
 use parts::get_a;
 use parts::get_r;
 use parts::get_s;
 use parts::set_s;
+use parts::start;
 use rules::Refusal;
 use rules::Seat;
 
@@ -201,7 +203,7 @@ pub fn load(t: &mut [u32], s: &[u8]) -> Loaded
     let Form::Of(a, n) = form_of(s) else {
         return Loaded::Refused(Refusal::Form);
     };
-    if t.len() != 2 + 6 * a {
+    if t.len() != start(a, PARTS) {
         return Loaded::Refused(Refusal::Size);
     }
     build(t, s, a, n);

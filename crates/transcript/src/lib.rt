@@ -23,8 +23,18 @@ use find::find_server;
 use lines::Line;
 use lines::command;
 use parts::MOST_SEATS;
+use parts::MOST_WORDS;
+use parts::PARTS;
+use parts::start;
 use rules::Refusal;
 use rules::number;
+
+// The bytes of the longest input; its ids, each with a space before it; and its answers: an empty line takes one byte, and its answer six.
+pub const MOST_INPUT: usize = 4096;
+
+pub const MOST_IDS: usize = MOST_INPUT / 2;
+
+pub const MOST_OUTPUT: usize = 6 * MOST_INPUT;
 
 // What a line is answered.
 pub enum Reply {
@@ -148,7 +158,7 @@ fn reopen(t: &mut [u32], len: usize, a: u32, ids: &[u32]) -> Answered
             len,
         };
     }
-    let n = 2 + 6 * a as usize;
+    let n = start(a as usize, PARTS);
     match open_table(&mut t[..n], a, ids) {
         Opened::Seats(used) => Answered {
             reply: Reply::One(used),
@@ -243,14 +253,14 @@ fn run_lines(input: &[u8], t: &mut [u32], ids: &mut [u32], out: &mut [u8]) -> us
 }
 
 // From the input's bytes to the output's, and how many those are.
-pub fn run(input: &[u8], out: &mut [u8; 24576]) -> usize
+pub fn run(input: &[u8], out: &mut [u8; MOST_OUTPUT]) -> usize
     ensures { λ r. ⌜ Written (transcript (now (input .entry))) (now (out .entry)) (r, now (out .exit)) ⌝ }
     ensures { λ r. ⌜ Counts r (now (out .exit)) ⌝ }
 {
-    if 4096 < input.len() {
+    if MOST_INPUT < input.len() {
         return put_reply(out, 0, Reply::No(Refusal::Room));
     }
-    let mut t = [0u32; 12290];
-    let mut ids = [0u32; 2048];
+    let mut t = [0u32; MOST_WORDS];
+    let mut ids = [0u32; MOST_IDS];
     run_lines(input, &mut t, &mut ids, out)
 }

@@ -1,14 +1,19 @@
 -- `changes::open_table` meets its contract: each way out is one of `Told`.
 -- Assumes nothing.
 use borrow.Author.Needs.{needs}
-use mathlib.Core.Path.{sym, ap, _∙_}
+use mathlib.Core.Path.{_≡_, sym, ap, _∙_}
 use mathlib.Core.List.{List, [], _∷_}
 use Prim.Native.Nat.{ℕ}
 use lib.ListN.{length}
+use Rattle.rules.specs.Table.{runLength}
 use Rattle.rules.specs.Answers.{done}
 use Rattle.changes.proofs.Told.{open-none, open-many, open-size, open-few, open-over, open-zero, open-twice, open-done}
 use Rattle.changes.proofs.open_table.Statement.{statement}
 use Rattle.changes.proofs.open_table.Tie as tie
+
+-- the run is of a's length
+sized : (s : tie.Else3) → length (s .before .before .before .before .before .before .args .t .now) ≡ runLength (s .before .before .before .before .before .before .args .a)
+sized s = s .if3 .left ∙ s .before .start .ensures
 
 returns : tie.Need-returns
 returns c = open-none _ _ _ (c .if1 .taken)
@@ -17,23 +22,23 @@ returns-2 : tie.Need-returns-2
 returns-2 c = open-many _ _ _ (c .before .if1 .left) (c .if2 .taken)
 
 returns-3 : tie.Need-returns-3
-returns-3 c = open-size _ _ _ (c .before .before .if1 .left) (c .before .if2 .left) (c .if3 .taken)
+returns-3 c = open-size _ _ _ (c .before .before .before .if1 .left) (c .before .before .if2 .left) (λ e. c .if3 .taken (e ∙ sym (c .before .start .ensures)))
 
 returns-4 : tie.Need-returns-4
-returns-4 c = let s = c .before in open-few _ _ _ (s .before .before .if1 .left) (s .before .if2 .left) (s .if3 .left) (c .if4 .taken)
+returns-4 c = let s = c .before in open-few _ _ _ (s .before .before .before .if1 .left) (s .before .before .if2 .left) (sized s) (c .if4 .taken)
 
 returns-5 : tie.Need-returns-5
 returns-5 c =
     let n = c .before in
     let s = n .before in
-    open-over _ _ _ (s .before .before .if1 .left) (s .before .if2 .left) (s .if3 .left) (n .if4 .left) (c .if5 .taken)
+    open-over _ _ _ (s .before .before .before .if1 .left) (s .before .before .if2 .left) (sized s) (n .if4 .left) (c .if5 .taken)
 
 returns-6 : tie.Need-returns-6
 returns-6 c =
     let f = c .before .before in
     let n = f .before in
     let s = n .before in
-    open-zero _ _ _ (s .before .before .if1 .left) (s .before .if2 .left) (s .if3 .left) (n .if4 .left) (f .if5 .left) (sym (c .before .occurs-in .ensures) ∙ c .if6 .taken)
+    open-zero _ _ _ (s .before .before .before .if1 .left) (s .before .before .if2 .left) (sized s) (n .if4 .left) (f .if5 .left) (sym (c .before .occurs-in .ensures) ∙ c .if6 .taken)
 
 returns-7 : tie.Need-returns-7
 returns-7 c =
@@ -41,7 +46,7 @@ returns-7 c =
     let f = z .before .before in
     let n = f .before in
     let s = n .before in
-    open-twice _ _ _ (s .before .before .if1 .left) (s .before .if2 .left) (s .if3 .left) (n .if4 .left) (f .if5 .left) (sym (z .before .occurs-in .ensures) ∙ z .if6 .left)
+    open-twice _ _ _ (s .before .before .before .if1 .left) (s .before .before .if2 .left) (sized s) (n .if4 .left) (f .if5 .left) (sym (z .before .occurs-in .ensures) ∙ z .if6 .left)
     (sym (c .before .repeats-in .ensures) ∙ c .if7 .taken)
 
 returns-8 : tie.Need-returns-8
@@ -51,8 +56,8 @@ returns-8 c =
     let f = z .before .before in
     let n = f .before in
     let s = n .before in
-    ap (λ (w : List ℕ). done (length (c .before .before .before .before .before .before .before .before .before .before .before .before .before .before .before .args .ids .now) ∷ []) w) (c .before .before .lay-out .ensures)
-    ∙ open-done _ _ _ (s .before .before .if1 .left) (s .before .if2 .left) (s .if3 .left) (n .if4 .left) (f .if5 .left) (sym (z .before .occurs-in .ensures) ∙ z .if6 .left)
+    ap (λ (w : List ℕ). done (length (c .before .before .before .before .before .before .before .before .before .before .before .before .before .before .before .before .args .ids .now) ∷ []) w) (c .before .before .lay-out .ensures)
+    ∙ open-done _ _ _ (s .before .before .before .if1 .left) (s .before .before .if2 .left) (sized s) (n .if4 .left) (f .if5 .left) (sym (z .before .occurs-in .ensures) ∙ z .if6 .left)
     (sym (t .before .repeats-in .ensures) ∙ t .if7 .left)
 
 pub open-table-spec : {M : Type 1} → statement M
@@ -61,8 +66,7 @@ open-table-spec =
     (tie.spec
     returns
     returns-2
-    (λ c. search needs)
-    (λ c. search needs)
+    (λ c κs. search needs)
     returns-3
     returns-4
     returns-5

@@ -1,19 +1,16 @@
 -- `layout::open_s` meets its contract: the part that it lends is filled whole.
 -- Assumes nothing.
 use borrow.Author.Needs.{needs}
-use mathlib.Core.Path.{ap, _∙_}
-use mathlib.Core.List.{List}
 use Prim.Native.Nat.{ℕ}
-use Rattle.layout.specs.Layout.{openS, withPart}
-use Rattle.layout.proofs.Laid.{lent-length}
+use Rattle.layout.specs.Layout.{openS}
+use Rattle.layout.proofs.Laid.{part-filled}
 use Rattle.layout.proofs.open_s.Statement.{statement}
 use Rattle.layout.proofs.open_s.Tie as tie
 
 returns : tie.Need-returns
 returns c =
-    let s = c .before .before .before .before .before .before in
-    ap (λ (l : List ℕ). withPart (s .args .a) 5 l (s .args .t .now))
-    (c .before .before .fill-s .ensures ∙ ap (λ (n : ℕ). openS n (s .args .ids .now)) (lent-length (s .args .t .now) (s .args .a) 5 (search needs)))
+    let s = c .before .before .before .before .before .before .before in
+    part-filled (λ (n : ℕ). openS n (s .args .ids .now)) (s .args .t .now) _ (s .args .a) 5 _ (c .before .before .before .before .start .ensures) (search needs) (c .before .before .fill-s .ensures)
 
 pub open-s-spec : {M : Type 1} → statement M
-open-s-spec = tie.close (tie.spec (λ c. search needs) (λ c. search needs) (λ c. search needs) (λ c. search needs) (λ c. search needs) (λ c. search needs) (λ c. search needs) (λ c κs. search needs) (λ c. search needs) returns)
+open-s-spec = tie.close (tie.spec (λ c κs. search needs) (λ c. search needs) (λ c. search needs) (λ c. search needs) (λ c. search needs) (λ c. search needs) (λ c κs. search needs) (λ c. search needs) returns)

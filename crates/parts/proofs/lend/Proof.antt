@@ -11,9 +11,9 @@ use Rattle.parts.proofs.lend.Tie as tie
 
 returns : tie.Need-returns
 returns c =
-    let s = c .before in
+    let s = c .before .before .before in
     let e = part-lent (s .args .t .now) (s .args .a) (s .args .k) in
-    (e, ap length e ∙ simp (length-take, length-drop) (min-eq-left (omega arith)))
+    rw (c .before .start .ensures) (e, ap length e ∙ simp (length-take, length-drop) (min-eq-left (omega arith)))
 
 pub lend-spec : {M : Type 1} → statement M
-lend-spec = tie.close (tie.spec (λ c. search needs) (λ c. search needs) (λ c. search needs) (λ c. search needs) (λ c. search needs) (λ c. search needs) (λ c. search needs) returns)
+lend-spec = tie.close (tie.spec (λ c κs. search needs) (λ c. search needs) (λ c. search needs) (λ c. search needs) (λ c. search needs) (λ c. search needs) returns)

@@ -3,6 +3,8 @@
 use native.Mathlib.Omega.{arith}
 use borrow.Author.Needs.{needs}
 use mathlib.Core.Path.{_≡_, sym, _∙_}
+use lib.ListN.{length}
+use Rattle.rules.specs.Table.{runLength}
 use Rattle.form.specs.declared.Form.the-variants.{Of}
 use Rattle.form.specs.Form.{formOf}
 use Rattle.record.proofs.Loads.{load-form, good, load-size, load-done}
@@ -17,18 +19,22 @@ form : (c : tie.After-a) → formOf (c .before .before .before .before .before .
 form c = sym (c .before .before .form-of .ensures) ∙ c .a .given .1
 
 returns-2 : tie.Need-returns-2
-returns-2 c = load-size _ _ _ (form (c .before .before)) _ (c .if1 .taken)
+returns-2 c = load-size _ _ _ (form (c .before .before .before)) _ (λ e. c .if1 .taken (e ∙ sym (c .before .start .ensures)))
+
+-- the run is of a's length
+sized : (c : tie.Else1) → length (c .before .before .before .before .before .before .before .before .args .t .now) ≡ runLength (c .before .before .before .a .given .0 .0)
+sized c = c .if1 .left ∙ c .before .start .ensures
 
 build-requires : tie.Need-build-requires
 build-requires c κs =
-    let g = good _ _ _ (form (c .before .before .before)) in
-    (g, record { size = c .before .if1 .left; most = g .head .most })
+    let g = good _ _ _ (form (c .before .before .before .before)) in
+    (g, record { size = sized (c .before); most = g .head .most })
 
 returns-3 : tie.Need-returns-3
 returns-3 c =
     let b = c .before .before in
-    let f = b .before .before .before .before in
-    load-done _ _ _ (form f) _ (b .build .last .0) (b .before .before .if1 .left) (b .build .ensures)
+    let f = b .before .before .before .before .before in
+    load-done _ _ _ (form f) _ (b .build .last .0) (sized (b .before .before)) (b .build .ensures)
 
 pub load-spec : {M : Type 1} → statement M
 load-spec =
@@ -38,10 +44,9 @@ load-spec =
     (λ c. search needs)
     (λ c. search needs)
     returns
-    (λ c. omega (arith, good _ _ _ (form (c .before)) .head .most))
-    (λ c. omega (arith, good _ _ _ (form (c .before)) .head .most))
+    (λ c κs. omega (arith, good _ _ _ (form (c .before)) .head .most))
     returns-2
     build-requires
-    (λ c. let g = good _ _ _ (form (c .before .before .before .before .before .before)) in omega (arith, g .head .fit, g .head .most))
+    (λ c. let g = good _ _ _ (form (c .before .before .before .before .before .before .before)) in omega (arith, g .head .fit, g .head .most))
     (λ c. search needs)
     returns-3)

@@ -26,31 +26,36 @@ slice-aggregate-open-table : tie.Need-slice-aggregate-open-table
 slice-aggregate-open-table c = sym (length-take-le _ _ (search needs))
 
 -- the lent run is as long as the one of the definition
+lent : (c : tie.After-open-table) → let s = c .before .before .before .before .before .before in length (take (c .before .before .start .result) (s .args .t .now)) ≡ runLength (s .args .a)
+lent c =
+    let s = c .before .before .before .before .before .before in
+    let n = c .before .before .start in
+    length-take-le (n .result) (s .args .t .now) (omega (arith, n .ensures)) ∙ n .ensures
+
 same : (c : tie.After-open-table) →
-    let s = c .before .before .before .before .before in
-    length (take (runLength (s .args .a)) (s .args .t .now)) ≡ length (replicate {A = ℕ} (runLength (s .args .a)) 0)
-same c =
-    let s = c .before .before .before .before .before in
-    length-take-le (runLength (s .args .a)) (s .args .t .now) (omega arith) ∙ sym (length-replicate (runLength (s .args .a)) 0)
+    let s = c .before .before .before .before .before .before in
+    length (take (c .before .before .start .result) (s .args .t .now)) ≡ length (replicate {A = ℕ} (runLength (s .args .a)) 0)
+same c = lent c ∙ sym (length-replicate (runLength (c .before .before .before .before .before .before .args .a)) 0)
 
 returns-2 : tie.Need-returns-2
 returns-2 c =
     let k = c .before in
     let r = c .before .before .before .before .before in
-    let s = c .before .before .before .before .before .before .before .before .before .before in
+    let s = c .before .before .before .before .before .before .before .before .before .before .before in
     let v = tableIn (s .args .len) (s .args .t .now) in
-    let kept : length (r .open-table .last .0) ≡ runLength (s .args .a) = omega (arith, length-take-le (runLength (s .args .a)) (s .args .t .now) (omega arith)) in
-    after-call (s .args .t .now) (r .open-table .last .0) (runLength (s .args .a)) _ _ _ 24 kept refl (one-most okWord _ refl)
+    let n = r .before .before .start in
+    let kept : length (r .open-table .last .0) ≡ n .result = omega (arith, lent r, n .ensures) in
+    after-call (s .args .t .now) (r .open-table .last .0) (n .result) _ _ _ 24 kept refl (one-most okWord _ refl)
     (ap (reopened v) (ap (λ (x : Opened). outcome (openedAnswer x) (r .open-table .last .0)) (sym (k .used .given .1)) ∙ r .open-table .ensures) ∙ reopened-same v (s .args .a) (s .args .ids .now) _ _ (same r))
 
 returns-3 : tie.Need-returns-3
 returns-3 c =
     let k = c .before in
     let r = c .before .before .before .before .before in
-    let s = c .before .before .before .before .before .before .before .before .before .before in
+    let s = c .before .before .before .before .before .before .before .before .before .before .before in
     let v = tableIn (s .args .len) (s .args .t .now) in
     let e = ap (λ (x : Opened). outcome (openedAnswer x) (r .open-table .last .0)) (sym (k .why .given .1)) ∙ r .open-table .ensures in
-    after-kept (s .args .t .now) (r .open-table .last .0) (runLength (s .args .a)) (s .args .len) _ _ 24 (refused-keeps v (s .args .a) (s .args .ids .now) _ _ (k .why .given .0 .0) e) (s .pre .1) (refused-most (k .why .given .0 .0))
+    after-kept (s .args .t .now) (r .open-table .last .0) (r .before .before .start .result) (s .args .len) _ _ 24 (refused-keeps v (s .args .a) (s .args .ids .now) _ _ (k .why .given .0 .0) e) (s .pre .1) (refused-most (k .why .given .0 .0))
     (refused-reopens v (s .args .a) (s .args .ids .now) _ _ (k .why .given .0 .0) e ∙ reopened-same v (s .args .a) (s .args .ids .now) _ _ (same r))
 
 pub reopen-spec : {M : Type 1} → statement M
@@ -58,8 +63,7 @@ reopen-spec =
     tie.close
     (tie.spec
     returns
-    (λ c. search needs)
-    (λ c. search needs)
+    (λ c κs. search needs)
     (λ c. search needs)
     slice-aggregate-open-table
     (λ c κs. search needs)
