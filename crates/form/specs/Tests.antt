@@ -34,3 +34,10 @@ OutTold s a m i false flags = OutFits s a m i → ⊥
 abbrev pub OutsTold : List ℕ → ℕ → ℕ → Bool → List ℕ → Type 0
 OutsTold s a m true flags = AllOut s a m m × Noted (bareFrom s a m m .A) flags a
 OutsTold s a m false flags = AllOut s a m m → ⊥
+
+-- four bytes as a number, and those at `at` from the last to the first
+abbrev pub join : ℕ → ℕ → ℕ → ℕ → ℕ
+join w x y z = ((w * 256 + x) * 256 + y) * 256 + z
+
+abbrev pub backwardAt : List ℕ → ℕ → ℕ
+backwardAt s at = join (s ! (at + 3)) (s ! (at + 2)) (s ! (at + 1)) (s ! at)

@@ -1,5 +1,6 @@
 // Whether bytes are a record, told by a read that never writes.
 ghost use mathlib.Core.Path.{_≡_};
+ghost use mathlib.Core.Logic.{_≢_};
 ghost use Prim.Native.Nat.{_+_, _*_, _-_, _<_, _≤_};
 ghost use lib.ListN.{length, replicate};
 ghost use Rattle.rules.specs.Table.{mostSeats};
@@ -7,7 +8,7 @@ ghost use Rattle.promises.specs.Decides.{Decides};
 ghost use Rattle.saved.specs.Reader.{rank, inAt, serverAt, bareFrom};
 ghost use Rattle.saved.specs.Fits.{HeadFits, InFits, AllIn, New, AllNew, BodyFits};
 ghost use Rattle.form.specs.Form.{formOf};
-ghost use Rattle.form.specs.Tests.{HeadTold, Noted, Leaving, OutTold, OutsTold};
+ghost use Rattle.form.specs.Tests.{HeadTold, Noted, Leaving, OutTold, OutsTold, join, backwardAt};
 use fields::FIELD;
 use fields::HEAD;
 use fields::HEAD_MARK;
@@ -136,31 +137,54 @@ pub fn server_at(s: &[u8], m: usize, j: usize) -> u32
     number_at(s, HEAD + OUT * m + IN * j + SECOND, SERVER)
 }
 
-// Is the j-th server none of those before it? All are looked at, with no way out of the loop.
-fn is_new(s: &[u8], m: usize, j: usize) -> bool
-    requires { ⌜ inAt m (j + 1) ≤ length (now s) ⌝ }
-    ensures { λ r. ⌜ Decides r (New (now (s .entry)) m j) ⌝ }
+// Four bytes as one number.
+fn joined(first: u8, second: u8, third: u8, last: u8) -> u32
+    ensures { λ r. ⌜ r ≡ join first second third last ⌝ }
 {
-    let id = server_at(s, m, j);
+    ((first as u32 * 256 + second as u32) * 256 + third as u32) * 256 + last as u32
+}
+
+// The bytes of the j-th server from the last to the first, which x86-64 has by one load: enough to tell servers apart.
+fn backward_at(s: &[u8], m: usize, j: usize) -> u32
+    requires { ⌜ inAt m (j + 1) ≤ length (now s) ⌝ }
+    ensures { λ r. ⌜ r ≡ backwardAt (now (s .entry)) (inAt m j + 4) ⌝ }
+{
+    let at = HEAD + OUT * m + IN * j + SECOND;
+    joined(s[at + 3], s[at + 2], s[at + 1], s[at])
+}
+
+// Are the i-th and the j-th server different?
+fn differ(s: &[u8], m: usize, i: usize, j: usize) -> bool
+    requires { ⌜ (inAt m (i + 1) ≤ length (now s)) × (inAt m (j + 1) ≤ length (now s)) ⌝ }
+    ensures { λ r. ⌜ Decides r (serverAt (now (s .entry)) m i ≢ serverAt (now (s .entry)) m j) ⌝ }
+{
+    backward_at(s, m, i) != backward_at(s, m, j)
+}
+
+// Are the j-th server and the next none of those before them? All are looked at, with no way out of the loop.
+fn two_new(s: &[u8], m: usize, j: usize) -> bool
+    requires { ⌜ inAt m (j + 2) ≤ length (now s) ⌝ }
+    ensures { λ r. ⌜ Decides r ((New (now (s .entry)) m j) × (New (now (s .entry)) m (j + 1))) ⌝ }
+{
     let mut ok = true;
     let mut i: usize = 0;
     while i < j {
-        ok = ok & (server_at(s, m, i) != id);
+        ok = ok & (differ(s, m, i, j) & differ(s, m, i, j + 1));
         i += 1;
     }
-    ok
+    ok & differ(s, m, j, j + 1)
 }
 
-// The one search among pairs: are the n servers all different?
+// The one search among pairs: are the n servers all different? Two at a time; of an odd number the first is new.
 fn all_new(s: &[u8], m: usize, n: usize) -> bool
     requires { ⌜ inAt m n ≤ length (now s) ⌝ }
     ensures { λ r. ⌜ Decides r (AllNew (now (s .entry)) m n) ⌝ }
 {
     let mut ok = true;
-    let mut j: usize = 0;
-    while j < n {
-        ok = ok & is_new(s, m, j);
-        j += 1;
+    let mut left = n / 2;
+    while 0 < left {
+        ok = ok & two_new(s, m, n - 2 * left);
+        left -= 1;
     }
     ok
 }

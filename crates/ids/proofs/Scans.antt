@@ -3,26 +3,44 @@
 use mathlib.Core.Path.{_≡_, refl, sym, ap, _∙_}
 use mathlib.Core.Bool.{Bool, true, false, not, _&&_, _||_, or-assoc, or-false}
 use mathlib.Core.List.{List}
-use Prim.Native.Nat.{ℕ, suc, _+_, _<_, _≤_}
+use mathlib.Core.Logic.{_≢_}
+use Prim.Native.Nat.{ℕ, suc, _+_, _-_, _<_, _≤_}
 use native.Mathlib.Nat.{add-suc, add-zero}
 use native.Mathlib.Numerals.{add-one}
 use native.Mathlib.Omega.{arith}
+use native.Mathlib.Decide.{decLt}
 use lib.ListN.{length, drop, drop-of-length-le}
 use lib.Seq.{drop-cons}
 use lib.Dec.{eqb}
-use borrow.Author.Tests.{eq-eqb, ne-eqb}
+use borrow.Author.Count.{below-more}
+use borrow.Author.Tests.{eq-eqb, ne-eqb, eqb-true, eqb-false}
 use Rattle.rules.specs.Table.{_!_}
 use Rattle.rules.specs.Ids.{occurs, repeats, placeOf}
+use Rattle.ids.proofs.Meaning.{occurs-at, not-occurs}
+
+-- the first i places, and i from `far` on, are looked at
+module _ (l : List ℕ) (id far : ℕ) where
+  abbrev pub Looked : ℕ → Bool → Type 0
+  Looked i true = occurs id l ≡ true
+  Looked i false = (k : ℕ) → k < i → (l ! k ≢ id) × (l ! (far + k) ≢ id)
+
+  pub looked-more : (i : ℕ) (hit : Bool) → far + i < length l → Looked i hit → Looked (i + 1) (hit || (eqb (l ! i) id || eqb (l ! (far + i)) id))
+  looked-more i true h o = o
+  looked-more i false h f = go (eqb (l ! i) id) (eqb (l ! (far + i)) id) refl refl
+    where
+      go : (p q : Bool) → eqb (l ! i) id ≡ p → eqb (l ! (far + i)) id ≡ q → Looked (i + 1) (p || q)
+      go true q e d = occurs-at id l i (omega arith) (eqb-true _ _ e)
+      go false true e d = occurs-at id l (far + i) h (eqb-true _ _ d)
+      go false false e d = below-more _ _ f (eqb-false _ _ e, eqb-false _ _ d)
+
+  pub looked-all : (i : ℕ) (hit : Bool) → far ≤ i → length l ≤ far + i → Looked i hit → hit ≡ occurs id l
+  looked-all i true h g o = sym o
+  looked-all i false h g f = sym (not-occurs id l (λ k m. elim (decLt k i) [
+    | yes a ↦ f k a .0
+    | no b ↦ let there : far + (k - far) ≡ k = omega arith in rw there at (f (k - far) (omega arith) .1)
+  ]))
 
 module _ (l : List ℕ) (i : ℕ) where
-  pub occurs-next : (id : ℕ) (hit : Bool) → i < length l → (hit || eqb (l ! i) id) || occurs id (drop (i + 1) l) ≡ (hit || occurs id (drop i l))
-  unfolding occurs
-  occurs-next id hit h = rw (drop-cons l i 0 h, add-one i) (or-assoc hit _ _)
-
-  pub occurs-end : (id : ℕ) (hit : Bool) → length l ≤ i → hit || occurs id (drop i l) ≡ hit
-  unfolding occurs
-  occurs-end id hit h = rw (drop-of-length-le l h) (or-false hit)
-
   pub repeats-next : (hit : Bool) → i < length l
       → (hit || (not (eqb (l ! i) 0) && occurs (l ! i) (drop (i + 1) l))) || repeats (drop (i + 1) l) ≡ (hit || repeats (drop i l))
   unfolding repeats

@@ -35,11 +35,15 @@ pub decides-iff : {P Q : Type 0} (r : Bool) → (P → Q) → (Q → P) → Deci
 decides-iff true f g p = f p
 decides-iff false f g n = λ q. n (g q)
 
+-- R is both P and Q
+pub decides-both : {P Q R : Type 0} (p q : Bool) → (P → Q → R) → (R → P) → (R → Q) → Decides p P → Decides q Q → Decides (p && q) R
+decides-both false q f g h n d = λ r. n (g r)
+decides-both true false f g h a n = λ r. n (h r)
+decides-both true true f g h a b = f a b
+
 -- what holds below i, and of i, holds below i + 1
 pub decides-more : (P : ℕ → Type 0) (i : ℕ) (all one : Bool) → Decides all ((k : ℕ) → k < i → P k) → Decides one (P i) → Decides (all && one) ((k : ℕ) → k < i + 1 → P k)
-decides-more P i false one n d = λ f. n (λ k h. f k (omega arith))
-decides-more P i true false a n = λ f. n (f i (omega arith))
-decides-more P i true true a p = below-more _ _ a p
+decides-more P i all one = decides-both all one (below-more P i) (λ f k h. f k (omega arith)) (λ f. f i (omega arith))
 
 pub decides-other : (x y : ℕ) → Decides (not (eqb x y)) (x ≢ y)
 decides-other x y = go (eqb x y) refl

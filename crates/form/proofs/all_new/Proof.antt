@@ -1,31 +1,41 @@
--- `form::all_new` meets its contract. The loop's invariant: the first j are looked at.
+-- `form::all_new` meets its contract. The loop's invariant: all but the last two for each turn that is left are looked at.
 -- Assumes nothing.
 use native.Mathlib.Omega.{arith}
+use borrow.Author.Count.{below-more}
 use borrow.Author.Needs.{needs}
 use mathlib.Core.Path.{_≡_}
-use Prim.Native.Nat.{_-_, _≤_}
+use Prim.Native.Nat.{_+_, _*_, _-_, _≤_}
 use Rattle.promises.specs.Decides.{Decides}
-use Rattle.promises.proofs.Decided.{decides-more}
+use Rattle.promises.proofs.Decided.{decides-both}
 use Rattle.saved.specs.Fits.{New, AllNew}
 use Rattle.form.proofs.all_new.Statement.{statement}
 use Rattle.form.proofs.all_new.Tie as tie
 
 abbrev Inv-loop : tie.InvT-loop
-Inv-loop s m n ok₀ j₀ ok j = (j ≤ n) × Decides ok (AllNew s m j)
+Inv-loop s m n ok₀ left₀ ok left = (2 * left ≤ n) × Decides ok (AllNew s m (n - 2 * left))
 
 abbrev μ-loop : tie.MeasureT-loop
-μ-loop s m n ok₀ j₀ ok j = n - j
+μ-loop s m n ok₀ left₀ ok left = left
 
 loop-again : tie.Need-loop-again Inv-loop μ-loop
 loop-again c =
     let l = c .before .before in
-    let s = c .before .before .before .before in
-    (search needs, decides-more (New (s .args .s .now) (s .args .m)) (l .loop .j) (l .loop .ok) (c .is-new .result) (l .loop .inv .1) (c .is-new .ensures))
+    let s = l .before .before in
+    let at = s .args .n - 2 * l .loop .left in (
+      search needs,
+      decides-both (l .loop .ok) (c .two-new .result)
+          (λ f t k h. below-more (New (s .args .s .now) (s .args .m)) (at + 1) (below-more _ at f (t .0)) (t .1) k (omega arith))
+          (λ f k h. f k (omega arith))
+          (λ f. (f at (omega arith), f (at + 1) (omega arith)))
+          (l .loop .inv .1)
+          (c .two-new .ensures),
+    )
 
 returns : tie.Need-returns Inv-loop μ-loop
 returns c =
     let l = c .before in
-    let end : l .loop .j ≡ l .before .before .args .n = omega arith in
+    let n = l .before .before .args .n in
+    let end : n - 2 * l .loop .left ≡ n = omega arith in
     rw end at (l .loop .inv .1)
 
 pub all-new-spec : {M : Type 1} → statement M
@@ -34,7 +44,9 @@ all-new-spec =
     (tie.spec
     Inv-loop
     μ-loop
-    (λ c. (search needs, λ k h. absurd (omega arith)))
+    (λ c. (search needs, λ j h i k. absurd (omega arith)))
+    (λ c. search needs)
+    (λ c. search needs)
     (λ c κs. search needs)
     (λ c. search needs)
     (λ c. search needs)
