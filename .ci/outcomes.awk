@@ -2,8 +2,8 @@
 # answer and whatever is lent for writing: `≡` with what it is equal to, `Decides` with the statement, another with what it is said of. Where the first
 # `ensures` has another form, or says something of a part of the outcome alone, NAME is '?' and the promise follows.
 /^ *pub (extern "C" )?fn / { text = ""; inside = 1 }
-inside && /^ *\{$/ { tell(text); inside = 0 }
 inside { text = text " " $0 }
+inside && /\{$/ { tell(text); inside = 0 } # where the body begins
 
 # what is lent for writing, and the answer
 function outcome(signature,    rest, name) {
@@ -12,8 +12,10 @@ function outcome(signature,    rest, name) {
     if (signature ~ /-> &/) parts[++count] = "now r"
     else if (signature ~ /->/) parts[++count] = "r"
     rest = signature
-    while (match(rest, /[a-z_]+: &mut /)) {
-        name = substr(rest, RSTART, index(substr(rest, RSTART), ":") - 1)
+    while (match(rest, /([A-Za-z0-9_]+: &mut |&mut self)/)) {
+        name = substr(rest, RSTART, RLENGTH)
+        sub(/: .*/, "", name)
+        sub(/^&mut /, "", name)
         if (name == "record") name = "«record»" # a word of the specifications' language
         parts[++count] = "now (" name " .exit)"
         rest = substr(rest, RSTART + RLENGTH)
