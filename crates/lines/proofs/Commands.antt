@@ -10,7 +10,8 @@ use native.Mathlib.Omega.{arith}
 use lib.ListN.{length, getD, drop, drop-of-length-le}
 use lib.Seq.{drop-cons}
 use borrow.Author.Tests.{eq-eqb, ne-eqb}
-use Rattle.lines.specs.Lines.{Read, got, bad, next, last, given, mostId, mostKey, Ids, withA, opens, idsOf, starts, openWord, seatWord, outWord, findWord, Command, seatLine, outLine, findLine, unknown, commandOf}
+use Rattle.lines.specs.Lines.{Read, got, bad, next, last, given, mostId, mostKey, withA, idsBehind, idsOf, starts, openWord, seatWord, outWord, findWord, Command, seatLine, outLine, findLine, unknown, commandOf}
+use Rattle.lines.specs.Readings.{idsRead}
 use Rattle.lines.proofs.Got.{Got, not-got, next-got}
 
 -- starts, from the place i on
@@ -57,7 +58,15 @@ module _ (s : List ℕ) where
   unfolding commandOf
   command-open e = rw (← e) refl
 
+  pub ids-open : true ≡ starts openWord s → idsBehind (next mostId (drop 4 s)) .ids ≡ idsRead s
+  unfolding idsRead
+  ids-open e = rw (← e) refl
+
   module _ (o : false ≡ starts openWord s) where
+    pub ids-other : [] ≡ idsRead s
+    unfolding idsRead
+    ids-other = rw (← o) refl
+
     pub command-seat : true ≡ starts seatWord s → given seatLine (last (next mostId (drop 4 s))) ≡ commandOf s
     unfolding commandOf
     command-seat e = rw (← o, ← e) refl

@@ -4,3 +4,4 @@ pub mod Listing
 pub mod Commands
 pub mod Long
 pub mod Tight
+pub mod Standing

@@ -7,7 +7,7 @@ use Prim.Native.Nat.{ℕ, suc, _+_, _≤_}
 use native.Mathlib.Omega.{arith}
 use lib.ListN.{length, drop, length-drop}
 use lib.Dec.{eqb}
-use Rattle.lines.specs.Lines.{Read, got, bad, next, last, given, mostId, mostKey, Ids, all, broken, opens, withA, idsOf, starts, openWord, seatWord, outWord, findWord, Command, openLine, seatLine, outLine, findLine, unknown, commandOf}
+use Rattle.lines.specs.Lines.{Read, got, bad, next, last, given, mostId, mostKey, opens, withA, idsOf, starts, openWord, seatWord, outWord, findWord, Command, openLine, seatLine, outLine, findLine, unknown, commandOf}
 use Rattle.lines.proofs.Got.{next-got}
 
 -- so many bytes at the least
@@ -32,13 +32,13 @@ given-least l n lim f h = go (next lim (drop n l)) refl
 open-least : (l : List ℕ) → least (withA (next mostId (drop 4 l))) ≤ length l
 open-least l = go (next mostId (drop 4 l)) refl
   where
-    ids : (a : ℕ) (i : Ids) → 6 ≤ length l → least (opens a i) ≤ length l
-    ids a (all xs) h = h
-    ids a broken h = omega arith
+    ids : (a : ℕ) (xs : List ℕ) (whole : Bool) → 6 ≤ length l → least (opens a (record { ids = xs; whole = whole })) ≤ length l
+    ids a xs true h = h
+    ids a xs false h = omega arith
 
     go : (r : Read) → next mostId (drop 4 l) ≡ r → least (withA r) ≤ length l
     go bad e = omega arith
-    go (got a bs) e = ids a (idsOf (suc (length bs)) bs) (omega (arith, behind l 4 mostId a bs e))
+    go (got a bs) e = let i = idsOf (suc (length bs)) bs in ids a (i .ids) (i .whole) (omega (arith, behind l 4 mostId a bs e))
 
 pub line-least : (l : List ℕ) → least (commandOf l) ≤ length l
 unfolding commandOf

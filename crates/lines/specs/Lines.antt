@@ -72,33 +72,39 @@ abbrev pub given : (ℕ → Command) → Read → Command
 given f bad = unknown
 given f (got v bs) = f v
 
-pub data Ids : Type 0 where
-  all : List ℕ → Ids
-  broken : Ids
+-- ids to the line's end, or up to what is none, and whether it is the end
+pub record Ids : Type 0 where
+  pub ids : List ℕ
+  pub whole : Bool
+
+abbrev pub noIds : Bool → Ids
+noIds whole = record { ids = []; whole = whole }
 
 abbrev pub before : ℕ → Ids → Ids
-before id (all ids) = all (id ∷ ids)
-before id broken = broken
+before id more = record { ids = id ∷ more .ids; whole = more .whole }
 
 abbrev pub withIds : Read → (List ℕ → Ids) → Ids
-withIds bad rest = broken
+withIds bad rest = noIds false
 withIds (got id bs) rest = before id (rest bs)
 
--- ids to the line's end, fewer than `most`
+-- fewer than `most`
 unfoldable pub idsOf : ℕ → List ℕ → Ids
 unfolding next
-idsOf zero bs = broken
-idsOf (suc most) [] = all []
+idsOf zero bs = noIds false
+idsOf (suc most) [] = noIds true
 idsOf (suc most) (b ∷ bs) = withIds (next mostId (b ∷ bs)) (idsOf most)
 
-abbrev pub opens : ℕ → Ids → Command
-opens a broken = unknown
-opens a (all ids) = openLine a ids
+-- those behind A; a line has more bytes than ids
+abbrev pub idsBehind : Read → Ids
+idsBehind bad = noIds false
+idsBehind (got a bs) = idsOf (suc (length bs)) bs
 
--- a line has more bytes than ids
+abbrev pub opens : ℕ → Ids → Command
+opens a i = cond (i .whole) (openLine a (i .ids)) unknown
+
 abbrev pub withA : Read → Command
 withA bad = unknown
-withA (got a bs) = opens a (idsOf (suc (length bs)) bs)
+withA (got a bs) = opens a (idsBehind (got a bs))
 
 -- the line begins with this word
 unfoldable pub starts : List ℕ → List ℕ → Bool

@@ -1,9 +1,10 @@
 -- What the enums that the code hands on mean, on the line s.
 use mathlib.Core.Path.{_≡_}
-use mathlib.Core.List.{List, []}
-use Prim.Native.Nat.{ℕ, _≤_}
-use lib.ListN.{length, take, drop}
-use Rattle.lines.specs.Lines.{Read, got, bad, Ids, all, broken, next, last, given, mostId, mostKey, withA, Command, openLine, seatLine, outLine, findLine, unknown, commandOf}
+use mathlib.Core.Bool.{cond}
+use mathlib.Core.List.{List, [], _++_}
+use Prim.Native.Nat.{ℕ}
+use lib.ListN.{length, drop}
+use Rattle.lines.specs.Lines.{Read, got, bad, Ids, next, last, given, mostId, mostKey, idsOf, idsBehind, withA, starts, openWord, Command, openLine, seatLine, outLine, findLine, unknown}
 use Rattle.lines.specs.declared.Word.{Word}
 use Rattle.lines.specs.declared.Word.the-variants as word
 use Rattle.lines.specs.declared.First.{First}
@@ -34,34 +35,41 @@ abbrev pub idOf : Id → Read
 idOf (ids.Is id) = got id []
 idOf ids.None = bad
 
--- the ids stand in a lent list
-abbrev pub listOf : List ℕ → Listed → Ids
-listOf ids (lists.All n) = all (take n ids)
-listOf ids lists.Broken = broken
+-- the ids that are read of a line that begins with `open`
+unfoldable pub idsRead : List ℕ → List ℕ
+unfolding starts next idsOf
+idsRead l = cond (starts openWord l) (idsBehind (next mostId (drop 4 l)) .ids) []
 
--- how many of them
-abbrev pub listCount : Listed → ℕ
-listCount (lists.All n) = n
-listCount lists.Broken = 0
+-- the same by its first word
+abbrev pub idsAfter : List ℕ → First → List ℕ
+idsAfter s (first.Is word.Open c) = idsBehind (next mostId (drop (c .at) s)) .ids
+idsAfter s (first.Is word.Seat c) = []
+idsAfter s (first.Is word.Out c) = []
+idsAfter s (first.Is word.Find c) = []
+idsAfter s first.Bad = []
 
-abbrev pub lineCount : Line → ℕ
-lineCount (line.Open a n) = n
-lineCount (line.Seat id) = 0
-lineCount (line.Out id) = 0
-lineCount (line.Find key) = 0
-lineCount line.Unknown = 0
+-- ids stand first in a list, and the rest of it is as it was
+abbrev pub standFirst : List ℕ → List ℕ → List ℕ
+standFirst ids l = ids ++ drop (length ids) l
 
-abbrev pub lineOf : List ℕ → Line → Command
-lineOf ids (line.Open a n) = openLine a (take n ids)
-lineOf ids (line.Seat id) = seatLine id
-lineOf ids (line.Out id) = outLine id
-lineOf ids (line.Find key) = findLine key
-lineOf ids line.Unknown = unknown
+-- how many there are, if they come to the line's end
+abbrev pub countOf : Ids → Listed
+countOf i = cond (i .whole) (lists.All (length (i .ids))) lists.Broken
 
--- the command that a line is, and the list after it, which holds its ids
-abbrev pub IsLine : List ℕ → Line × List ℕ → Type 0
-IsLine s o = (lineOf (o .1) (o .0) ≡ commandOf s) × (lineCount (o .0) ≤ length (o .1))
+-- that, and the list after it
+pub record Lists (i : Ids) (before : List ℕ) (o : Listed × List ℕ) : Type 0 where
+  pub count : o .0 ≡ countOf i
+  pub stand : o .1 ≡ standFirst (i .ids) before
 
--- what is promised of these: the command and its ids
-abbrev pub seen : Line × List ℕ → Line × List ℕ
-seen o = (o .0, take (lineCount (o .0)) (o .1))
+-- a command, its ids counted
+abbrev pub lineFrom : Command → Line
+lineFrom (openLine a ids) = line.Open a (length ids)
+lineFrom (seatLine id) = line.Seat id
+lineFrom (outLine id) = line.Out id
+lineFrom (findLine key) = line.Find key
+lineFrom unknown = line.Unknown
+
+-- that, and the list after it
+pub record IsLine (c : Command) (ids before : List ℕ) (o : Line × List ℕ) : Type 0 where
+  pub line : o .0 ≡ lineFrom c
+  pub stand : o .1 ≡ standFirst ids before

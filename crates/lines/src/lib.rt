@@ -2,8 +2,8 @@
 ghost use mathlib.Core.Path.{_≡_};
 ghost use Prim.Native.Nat.{_+_, _*_, _≤_};
 ghost use lib.ListN.{length, drop};
-ghost use Rattle.lines.specs.Lines.{digits, number, next, last, mostId, idsOf, starts, withA, commandOf};
-ghost use Rattle.lines.specs.Readings.{afterWord, readOf, idOf, listOf, listCount, lineOf, lineCount, IsLine};
+ghost use Rattle.lines.specs.Lines.{digits, number, next, last, mostId, idsOf, idsBehind, starts, withA, commandOf};
+ghost use Rattle.lines.specs.Readings.{afterWord, idsAfter, idsRead, readOf, idOf, Lists, IsLine};
 
 // A place in a line.
 pub struct Cursor {
@@ -144,7 +144,7 @@ impl Cursor {
     // The ids from here to the line's end, put into `into`.
     fn ids(self, s: &[u8], into: &mut [u32]) -> Listed
         requires { ⌜ length (now s) ≤ 2 * length (now into) ⌝ }
-        ensures { λ r. ⌜ (listOf (now (into .exit)) r ≡ idsOf (length (drop (self .at) (now (s .entry))) + 1) (drop (self .at) (now (s .entry)))) × (listCount r ≤ length (now (into .exit))) ⌝ }
+        ensures { λ r. ⌜ Lists (idsOf (length (drop (self .at) (now (s .entry))) + 1) (drop (self .at) (now (s .entry)))) (now (into .entry)) (r, now (into .exit)) ⌝ }
     {
         let mut at = self.at;
         let mut n: usize = 0;
@@ -162,7 +162,7 @@ impl Cursor {
     // The word that begins here.
     fn word(self, s: &[u8]) -> First
         requires { ⌜ self .at ≤ length (now s) ⌝ }
-        ensures { λ r. ⌜ afterWord (now (s .entry)) r ≡ commandOf (drop (self .at) (now (s .entry))) ⌝ }
+        ensures { λ r. ⌜ (afterWord (now (s .entry)) r ≡ commandOf (drop (self .at) (now (s .entry)))) × (idsAfter (now (s .entry)) r ≡ idsRead (drop (self .at) (now (s .entry)))) ⌝ }
     {
         let at = self.at;
         let l = &s[at..];
@@ -207,7 +207,7 @@ impl Cursor {
 
 fn open_line(c: Cursor, s: &[u8], into: &mut [u32]) -> Line
     requires { ⌜ length (now s) ≤ 2 * length (now into) ⌝ }
-    ensures { λ r. ⌜ (lineOf (now (into .exit)) r ≡ withA (next mostId (drop (c .at) (now (s .entry))))) × (lineCount r ≤ length (now (into .exit))) ⌝ }
+    ensures { λ r. ⌜ IsLine (withA (next mostId (drop (c .at) (now (s .entry))))) (idsBehind (next mostId (drop (c .at) (now (s .entry)))) .ids) (now (into .entry)) (r, now (into .exit)) ⌝ }
 {
     let Number::Value(a, c) = c.next(s, 0xffff_ffff) else {
         return Line::Unknown;
@@ -221,7 +221,7 @@ fn open_line(c: Cursor, s: &[u8], into: &mut [u32]) -> Line
 // The command that a line is. The ids of an opening go into `into`.
 pub fn command(s: &[u8], into: &mut [u32]) -> Line
     requires { ⌜ length (now s) ≤ 2 * length (now into) ⌝ }
-    ensures { λ r. ⌜ IsLine (now (s .entry)) (r, now (into .exit)) ⌝ }
+    ensures { λ r. ⌜ IsLine (commandOf (now (s .entry))) (idsRead (now (s .entry))) (now (into .entry)) (r, now (into .exit)) ⌝ }
 {
     let First::Is(word, c) = (Cursor { at: 0 }).word(s) else {
         return Line::Unknown;

@@ -2,20 +2,27 @@
 -- Assumes nothing.
 use native.Mathlib.Omega.{arith}
 use borrow.Author.Needs.{needs}
-use mathlib.Core.Path.{_≡_, sym, ap, _∙_, subst}
+use mathlib.Core.Path.{_≡_, refl, sym, ap, _∙_}
+use mathlib.Core.Bool.{Bool, true, false, cond}
 use mathlib.Core.List.{List}
-use Prim.Native.Nat.{ℕ, _+_, _≤_}
+use Prim.Native.Nat.{ℕ, _+_}
 use native.Mathlib.Numerals.{add-one}
 use lib.ListN.{length, drop}
-use Rattle.lines.specs.Lines.{Read, got, Ids, next, mostId, withA, opens, idsOf}
-use Rattle.lines.specs.Readings.{readOf, listOf, listCount}
+use Rattle.lines.specs.Lines.{Read, got, next, mostId, openLine, unknown, idsBehind, withA, idsOf}
+use Rattle.lines.specs.Readings.{readOf, standFirst, Lists, lineFrom, IsLine}
 use Rattle.lines.specs.declared.Listed.{Listed}
+use Rattle.lines.specs.declared.Listed.the-variants.{All, Broken}
+use Rattle.lines.specs.declared.Line.{Line}
+use Rattle.lines.specs.declared.Line.the-variants as line
 use Rattle.lines.proofs.Got.{next-got}
 use Rattle.lines.proofs.open_line.Statement.{statement}
 use Rattle.lines.proofs.open_line.Tie as tie
 
 returns : tie.Need-returns
-returns c = (ap withA (sym (ap (readOf (c .before .before .before .before .before .args .s .now)) (c .enum-told .given .1)) ∙ c .before .before .next .ensures), search needs)
+returns c =
+    let s = c .before .before .before .before .before in
+    let none = sym (ap (readOf (s .args .s .now)) (c .enum-told .given .1)) ∙ c .before .before .next .ensures in
+    record { line = ap (λ (r : Read). lineFrom (withA r)) none; stand = ap (λ (r : Read). standFirst (idsBehind r .ids) (s .args .into .now)) none }
 
 -- a, and what is left behind it
 first : (c : tie.After-a) →
@@ -24,17 +31,25 @@ first : (c : tie.After-a) →
 first c = sym (ap (readOf (c .before .before .before .before .before .args .s .now)) (c .a .given .1)) ∙ c .before .before .next .ensures
 
 -- the ids of what is left
-whole : (a : ℕ) (bs : List ℕ) (r : Read) (i : Ids) → got a bs ≡ r → i ≡ idsOf (length bs + 1) bs → opens a i ≡ withA r
-whole a bs r i e f = ap (opens a) (f ∙ ap (λ (n : ℕ). idsOf n bs) (add-one (length bs))) ∙ ap withA e
+abbrev opening : ℕ → Listed → Line
+opening a (All n) = line.Open a n
+opening a Broken = line.Unknown
 
-bound : (r q : Listed) (m : ℕ) → r ≡ q → listCount r ≤ m → listCount q ≤ m
-bound r q m e h = subst (λ (x : Listed). listCount x ≤ m) e h
+counted : (a : ℕ) (ids : List ℕ) (whole : Bool) → opening a (cond whole (All (length ids)) Broken) ≡ lineFrom (cond whole (openLine a ids) unknown)
+counted a ids true = refl
+counted a ids false = refl
+
+opened : (a : ℕ) (bs : List ℕ) (read : Read) (before after : List ℕ) (r q : Listed) → got a bs ≡ read → r ≡ q → Lists (idsOf (length bs + 1) bs) before (r, after)
+    → IsLine (withA read) (idsBehind read .ids) before (opening a q, after)
+opened a bs read before after r q e same h =
+    let i = idsOf (length bs + 1) bs in
+    rw (← e, ← add-one (length bs)) (record { line = ap (opening a) (sym same ∙ h .count) ∙ counted a (i .ids) (i .whole); stand = h .stand })
 
 returns-2 : tie.Need-returns-2
 returns-2 c =
     let a = c .before .before .before .before .before .before .before in
     let i = c .before .before .before .before in
-    (whole (a .a .given .0 .0) _ _ _ (first a) (sym (ap (listOf (i .ids .last .1 .1 .0)) (c .enum-told2 .given .1)) ∙ i .ids .ensures .0), search needs)
+    opened (a .a .given .0 .0) _ _ _ _ _ _ (first a) (c .enum-told2 .given .1) (i .ids .ensures)
 
 cast-t11 : tie.Need-cast-t11
 cast-t11 c = omega (arith, next-got mostId _ _ _ (sym (first (c .before .before .before .before .before .before .before .before))) .most)
@@ -43,7 +58,7 @@ returns-3 : tie.Need-returns-3
 returns-3 c =
     let a = c .before .before .before .before .before .before .before .before in
     let i = c .before .before .before .before .before in
-    (whole (a .a .given .0 .0) _ _ _ (first a) (sym (ap (listOf (i .ids .last .1 .1 .0)) (c .before .n .given .1)) ∙ i .ids .ensures .0), bound (i .ids .result) _ _ (c .before .n .given .1) (i .ids .ensures .1))
+    opened (a .a .given .0 .0) _ _ _ _ _ _ (first a) (c .before .n .given .1) (i .ids .ensures)
 
 pub open-line-spec : {M : Type 1} → statement M
 open-line-spec = tie.close (tie.spec (λ c κs. search needs) (λ c. search needs) (λ c. search needs) returns (λ c κs. search needs) (λ c. search needs) (λ c. search needs) (λ c. search needs) returns-2 cast-t11 (λ c. search needs) returns-3)

@@ -9,7 +9,8 @@ use lib.ListN.{length, take}
 use lib.Seq.{length-take-le}
 use Rattle.rules.specs.Answers.{Answer}
 use Rattle.lines.specs.Lines.{Command, commandOf}
-use Rattle.lines.specs.Readings.{lineOf, lineCount}
+use Rattle.lines.proofs.Standing as standing
+use Rattle.lines.proofs.Standing.{lineOf, lineCount}
 use Rattle.lines.specs.declared.Line.{Line}
 use Rattle.transcript.specs.Transcript.{respond}
 use Rattle.transcript.specs.Replies.{tableIn}
@@ -17,13 +18,18 @@ use Rattle.transcript.proofs.Tables.{after-none, respond-as, roomy, unk
 use Rattle.transcript.proofs.answer_line.Statement.{statement}
 use Rattle.transcript.proofs.answer_line.Tie as tie
 
+reads : (c : tie.After-command) →
+    let after = c .command .last .1 .0 in
+    (lineOf after (c .command .result) ≡ commandOf (c .before .before .before .before .before .args .line .now)) × (lineCount (c .command .result) ≤ length after)
+reads c = standing.told _ _ _ _ (c .command .ensures)
+
 -- what the command is
 told : (c : tie.After-command) (l : Line) → c .command .result ≡ l → commandOf (c .before .before .before .before .before .args .line .now) ≡ lineOf (c .command .last .1 .0) l
-told c l e = sym (c .command .ensures .0) ∙ ap (lineOf (c .command .last .1 .0)) e
+told c l e = sym (reads c .0) ∙ ap (lineOf (c .command .last .1 .0)) e
 
 -- how many ids it has
 few : (c : tie.After-command) (l : Line) → c .command .result ≡ l → lineCount l ≤ length (c .command .last .1 .0)
-few c l e = subst (λ (x : Line). lineCount x ≤ length (c .command .last .1 .0)) e (c .command .ensures .1)
+few c l e = subst (λ (x : Line). lineCount x ≤ length (c .command .last .1 .0)) e (reads c .1)
 
 slice-reshare-prefix-reopen : tie.Need-slice-reshare-prefix-reopen
 slice-reshare-prefix-reopen c = few (c .before .before .before .before .before .before) _ (c .before .before .a .given .1)

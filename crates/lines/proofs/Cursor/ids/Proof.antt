@@ -3,19 +3,20 @@
 use native.Mathlib.Omega.{arith}
 use borrow.Author.Needs.{needs}
 use mathlib.Core.Path.{_≡_, refl, sym, ap, _∙_}
+use mathlib.Core.Bool.{true, false}
 use Prim.Native.Nat.{ℕ, suc, _<_, _≤_, _+_, _-_, _*_}
 use lib.ListN.{length, take, drop, length-drop, length-set}
 use Rattle.lines.specs.Lines.{got, next, mostId, idsOf}
 use Rattle.lines.specs.Readings.{readOf}
 use Rattle.lines.proofs.Got.{next-got}
-use Rattle.lines.proofs.Listing.{prefixed, prefixed-none, list-broken, list-more, list-end}
+use Rattle.lines.proofs.Listing.{prefixed, list-broken, list-more, list-end, kept-more, lists}
 use Rattle.lines.proofs.Cursor.ids.Statement.{statement}
 use Rattle.lines.proofs.Cursor.ids.Tie as tie
 
 abbrev Inv-loop : tie.InvT-loop
 Inv-loop s into₀ at₀ n₀ into at n =
     (length into ≡ length into₀) × (n + n + (length s - at) ≤ length s - at₀)
-    × (prefixed (take n into) (idsOf (length s - at₀ + 1 - n) (drop at s)) ≡ idsOf (length s - at₀ + 1) (drop at₀ s))
+    × (prefixed (take n into) (idsOf (length s - at₀ + 1 - n) (drop at s)) ≡ idsOf (length s - at₀ + 1) (drop at₀ s)) × (drop n into ≡ drop n into₀)
 
 abbrev μ-loop : tie.MeasureT-loop
 μ-loop s into₀ at₀ n₀ into at n = length s - at
@@ -24,7 +25,7 @@ loop-holds : tie.Need-loop-holds Inv-loop μ-loop
 loop-holds c =
     let s = c .before .before in
     let e : length (s .args .s .now) - s .args .self .at + 1 - 0 ≡ length (s .args .s .now) - s .args .self .at + 1 = omega arith in
-    (refl, omega arith, rw e (prefixed-none _))
+    (refl, omega arith, rw e refl, refl)
 
 -- a fuel for one id more
 one-less : (n l i : ℕ) → i + i + l ≤ n → 0 < l → n + 1 - i ≡ suc (n + 1 - (i + 1))
@@ -37,7 +38,7 @@ returns c =
     let e = sym (ap (readOf (s .args .s .now)) (c .enum-told .given .1)) ∙ c .before .before .next .ensures in
     let inv = l .loop .inv .2 in
     let f = one-less (length (s .args .s .now) - s .args .self .at) (length (s .args .s .now) - l .loop .at) (l .loop .n) (l .loop .inv .1) (omega arith) in
-    (rw (length-drop) (ap (prefixed (take (l .loop .n) (l .loop .into))) (list-broken (s .args .s .now) (l .loop .at) _ (omega arith) e) ∙ (rw f at inv)), omega arith)
+    rw (length-drop) (lists _ (l .loop .into) (s .args .into .now) (l .loop .n) false (omega (arith, l .loop .inv, s .pre)) (l .loop .inv .3) (list-broken (s .args .s .now) (l .loop .at) _ (omega arith) _ e ∙ (rw f at inv)))
 
 -- a turn's number
 turn : (c : tie.After-known-told Inv-loop μ-loop) →
@@ -80,6 +81,7 @@ loop-again c =
       simp length-set (l .loop .inv .0),
       omega (arith, known c .1, l .loop .inv .1),
       list-more (s .args .s .now) (l .loop .at) _ (omega (arith, known c .1)) (l .loop .into) (l .loop .n) _ (c .before .id .given .0 .1 .0 .at) (slice-write-into c) (turn c) ∙ (rw f at inv),
+      kept-more (l .loop .into) (s .args .into .now) (l .loop .n) (c .before .id .given .0 .0) (l .loop .inv .3),
     )
 
 returns-2 : tie.Need-returns-2 Inv-loop μ-loop
@@ -88,7 +90,7 @@ returns-2 c =
     let s = c .before .before .before .before in
     let inv = l .loop .inv .2 in
     let f : length (s .args .s .now) - s .args .self .at + 1 - l .loop .n ≡ suc (length (s .args .s .now) - s .args .self .at - l .loop .n) = omega (arith, l .loop .inv .1) in
-    (rw (length-drop) (sym (list-end (s .args .s .now) (l .loop .at) _ (take (l .loop .n) (l .loop .into)) (omega arith)) ∙ (rw f at inv)), omega (arith, l .loop .inv, s .pre))
+    rw (length-drop) (lists _ (l .loop .into) (s .args .into .now) (l .loop .n) true (omega (arith, l .loop .inv, s .pre)) (l .loop .inv .3) (list-end (s .args .s .now) (l .loop .at) _ (take (l .loop .n) (l .loop .into)) (omega arith) ∙ (rw f at inv)))
 
 pub ids-spec : {M : Type 1} → statement M
 ids-spec =

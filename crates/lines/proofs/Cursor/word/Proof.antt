@@ -8,8 +8,8 @@ use Prim.Native.Nat.{ℕ, _-_}
 use native.Mathlib.Omega.{arith}
 use lib.ListN.{length, take, drop, length-drop}
 use lib.Seq.{drop-drop, take-all}
-use Rattle.lines.specs.Lines.{next, last, given, withA, mostId, mostKey, starts, openWord, seatWord, outWord, findWord, seatLine, outLine, findLine}
-use Rattle.lines.proofs.Commands.{command-open, command-seat, command-out, command-find, command-other}
+use Rattle.lines.specs.Lines.{next, last, given, idsBehind, withA, mostId, mostKey, starts, openWord, seatWord, outWord, findWord, seatLine, outLine, findLine}
+use Rattle.lines.proofs.Commands.{ids-open, ids-other, command-open, command-seat, command-out, command-find, command-other}
 use Rattle.lines.proofs.Cursor.word.Statement.{statement}
 use Rattle.lines.proofs.Cursor.word.Tie as tie
 
@@ -30,37 +30,47 @@ not-out c = let s = c .before .before .before .before .before .before .before .b
 returns : tie.Need-returns
 returns c =
     let s = c .before .before .before .before .before in
-    ap (λ (l : List ℕ). withA (next mostId l)) (sym (drop-drop 4 (s .args .self .at) (s .args .s .now)))
-    ∙ command-open _ (lent openWord (s .args .s .now) (s .args .self .at) true (sym (c .if1 .taken) ∙ c .before .starts-with .ensures))
+    let behind = sym (drop-drop 4 (s .args .self .at) (s .args .s .now)) in
+    let begins = lent openWord (s .args .s .now) (s .args .self .at) true (sym (c .if1 .taken) ∙ c .before .starts-with .ensures) in
+    (ap (λ (l : List ℕ). withA (next mostId l)) behind ∙ command-open _ begins, ap (λ (l : List ℕ). idsBehind (next mostId l) .ids) behind ∙ ids-open _ begins)
 
 returns-2 : tie.Need-returns-2
 returns-2 c =
     let s = c .before .before .before .before .before .before .before .before in
-    ap (λ (l : List ℕ). given seatLine (last (next mostId l))) (sym (drop-drop 4 (s .args .self .at) (s .args .s .now)))
-    ∙ command-seat _ (not-open (c .before .before .before)) (lent seatWord (s .args .s .now) (s .args .self .at) true (sym (c .if2 .taken) ∙ c .before .starts-with2 .ensures))
+    let other = not-open (c .before .before .before) in (
+      ap (λ (l : List ℕ). given seatLine (last (next mostId l))) (sym (drop-drop 4 (s .args .self .at) (s .args .s .now)))
+          ∙ command-seat _ other (lent seatWord (s .args .s .now) (s .args .self .at) true (sym (c .if2 .taken) ∙ c .before .starts-with2 .ensures)),
+      ids-other _ other,
+    )
 
 returns-3 : tie.Need-returns-3
 returns-3 c =
     let s = c .before .before .before .before .before .before .before .before .before .before .before in
     let e = c .before .before .before in
-    ap (λ (l : List ℕ). given outLine (last (next mostId l))) (sym (drop-drop 3 (s .args .self .at) (s .args .s .now)))
-    ∙ command-out _ (not-open (e .before .before .before)) (not-seat e) (lent outWord (s .args .s .now) (s .args .self .at) true (sym (c .if3 .taken) ∙ c .before .starts-with3 .ensures))
+    let other = not-open (e .before .before .before) in (
+      ap (λ (l : List ℕ). given outLine (last (next mostId l))) (sym (drop-drop 3 (s .args .self .at) (s .args .s .now)))
+          ∙ command-out _ other (not-seat e) (lent outWord (s .args .s .now) (s .args .self .at) true (sym (c .if3 .taken) ∙ c .before .starts-with3 .ensures)),
+      ids-other _ other,
+    )
 
 returns-4 : tie.Need-returns-4
 returns-4 c =
     let s = c .before .before .before .before .before .before .before .before .before .before .before .before .before .before in
     let f = c .before .before .before in
     let e = f .before .before .before in
-    ap (λ (l : List ℕ). given findLine (last (next mostKey l))) (sym (drop-drop 4 (s .args .self .at) (s .args .s .now)))
-    ∙ command-find _ (not-open (e .before .before .before)) (not-seat e) (not-out f) (lent findWord (s .args .s .now) (s .args .self .at) true (sym (c .if4 .taken) ∙ c .before .starts-with4 .ensures))
+    let other = not-open (e .before .before .before) in (
+      ap (λ (l : List ℕ). given findLine (last (next mostKey l))) (sym (drop-drop 4 (s .args .self .at) (s .args .s .now)))
+          ∙ command-find _ other (not-seat e) (not-out f) (lent findWord (s .args .s .now) (s .args .self .at) true (sym (c .if4 .taken) ∙ c .before .starts-with4 .ensures)),
+      ids-other _ other,
+    )
 
 returns-5 : tie.Need-returns-5
 returns-5 c =
     let s = c .before .before .before .before .before .before .before .before .before .before .before .before .before .before in
     let f = c .before .before .before in
     let e = f .before .before .before in
-    command-other _ (not-open (e .before .before .before)) (not-seat e) (not-out f)
-    (lent findWord (s .args .s .now) (s .args .self .at) false (sym (c .if4 .left) ∙ c .before .starts-with4 .ensures))
+    let other = not-open (e .before .before .before) in
+    (command-other _ other (not-seat e) (not-out f) (lent findWord (s .args .s .now) (s .args .self .at) false (sym (c .if4 .left) ∙ c .before .starts-with4 .ensures)), ids-other _ other)
 
 pub word-spec : {M : Type 1} → statement M
 word-spec =
