@@ -60,7 +60,7 @@ function shape(promise,    at, left, right, name) {
         right = substr(promise, RSTART)
         left = substr(promise, 1, RSTART - 1)
         if (promise ~ /^[A-Z]/ && all(right) && !any(left)) {
-            if (left ~ /^(Says|Leaves) [A-Za-z]+ /) { match(left, /^(Says|Leaves) [A-Za-z]+/); return substr(left, 1, RLENGTH) }
+            if (left ~ /^(Says|Results) [A-Za-z]+ /) { match(left, /^(Says|Results) [A-Za-z]+/); return substr(left, 1, RLENGTH) }
             return name
         }
     }

@@ -23,19 +23,14 @@ use Rattle.sound.proofs.Reached.{passes, named-in-use}
 use Rattle.sound.proofs.Sound.{sized, sound-table}
 use Rattle.ids.proofs.Meaning.{placed, absent, apart}
 use Rattle.changes.specs.Calls.{openCall, seatCall, outCall}
+use Rattle.changes.specs.Accepted.{IsOpening, OpenOpens, IsChange, OutChanges, SeatChanges}
 use Rattle.changes.proofs.Told.{seat-zero, seat-twice, seat-full, seat-done, out-zero, out-absent, out-last, out-done, open-none, open-many, open-size, open-few, open-over, open-zero, open-twice, open-done}
 
 -- the words of a reached table
 read-back : {T : Table} {v : List ℕ} → Reached T → words T ≡ v → (tableOf v ≡ T) × Sound v
 read-back {T} r e = (ap tableOf (sym e) ∙ tableOf-words T (sized r), record { table = T; reached = r; isWords = e })
 
--- from the words w the change c leaves v
-pub record Changes (c : Change) (w v : List ℕ) : Type 0 where
-  pub accepts : Accepts (tableOf w) c
-  pub table : tableOf v ≡ changed (tableOf w) c
-  pub sound : Sound v
-
-accepted-changes : (c : Change) {w v : List ℕ} → Sound w → Accepts (tableOf w) c → words (changed (tableOf w) c) ≡ v → Changes c w v
+accepted-changes : (c : Change) {w v : List ℕ} → Sound w → Accepts (tableOf w) c → words (changed (tableOf w) c) ≡ v → IsChange c w v
 accepted-changes c s ok e = let (table, sound) = read-back (reached-changed c (sound-table s) ok) e in record { accepts = ok; table = table; sound = sound }
 
 -- no refusal is an accepted change
@@ -59,22 +54,22 @@ module _ (w v : List ℕ) (id b : ℕ) (s : Sound w) where
       let inUse = named-in-use p below (λ z. some (sym (at .1) ∙ z)) in
       record { isId = subst Id (at .1) (p .ids .some _ below inUse); below = below; has = at .1; two = omega (arith, p .test .shape .some) }
 
-  pub out-changes : outCall w id ≡ done (b ∷ []) v → Changes (taking id b) w v
-  out-changes f = elim (ℕ-discrete id 0) [ yes z ↦ never Zero (out-zero w id s z) f | no some ↦ go some (occurs id (T .S)) refl ]
+  out-is : outCall w id ≡ done (b ∷ []) v → IsChange (taking id b) w v
+  out-is f = elim (ℕ-discrete id 0) [ yes z ↦ never Zero (out-zero w id s z) f | no some ↦ go some (occurs id (T .S)) refl ]
     where
-      go : id ≢ 0 → (t : Bool) → occurs id (T .S) ≡ t → Changes (taking id b) w v
+      go : id ≢ 0 → (t : Bool) → occurs id (T .S) ≡ t → IsChange (taking id b) w v
       go some false o = never Absent (out-absent w id s some o) f
       go some true o = elim (ℕ-discrete (w ! 1) 1) [
         | yes e ↦ never Last (out-last w id s some o e) f
         | no ne ↦
             let same = same-seat (out-done w id s some o ne) f in
-            subst (λ (x : ℕ). Changes (taking id x) w v) (same .0) (accepted-changes (taking id _) s (takes some ne o) (same .1))
+            subst (λ (x : ℕ). IsChange (taking id x) w v) (same .0) (accepted-changes (taking id _) s (takes some ne o) (same .1))
       ]
 
-  pub seat-changes : id < 2 ^ 32 → seatCall w id ≡ done (b ∷ []) v → Changes (seating id b) w v
-  seat-changes small f = elim (ℕ-discrete id 0) [ yes z ↦ never Zero (seat-zero w id s z) f | no some ↦ go some (occurs id (T .S)) refl ]
+  seat-is : id < 2 ^ 32 → seatCall w id ≡ done (b ∷ []) v → IsChange (seating id b) w v
+  seat-is small f = elim (ℕ-discrete id 0) [ yes z ↦ never Zero (seat-zero w id s z) f | no some ↦ go some (occurs id (T .S)) refl ]
     where
-      go : id ≢ 0 → (t : Bool) → occurs id (T .S) ≡ t → Changes (seating id b) w v
+      go : id ≢ 0 → (t : Bool) → occurs id (T .S) ≡ t → IsChange (seating id b) w v
       go some true o = never Twice (seat-twice w id s some o) f
       go some false o = elim (ℕ-discrete (w ! 1) (w ! 0)) [
         | yes e ↦ never Full (seat-full w id s some o e) f
@@ -86,20 +81,14 @@ module _ (w v : List ℕ) (id b : ℕ) (s : Sound w) where
             (same .1)
       ]
 
--- an opening with a and ids leaves the words u
-pub record Opening (a : ℕ) (ids u : List ℕ) : Type 0 where
-  pub opens : Opens a ids
-  pub table : tableOf u ≡ opened a ids
-  pub sound : Sound u
-
 module _ (w u : List ℕ) (a : ℕ) (ids vs : List ℕ) (word : (i : ℕ) → ids ! i < 2 ^ 32) (f : openCall w a ids ≡ done vs u) where
-  opening : Opens a ids → done (length ids ∷ []) (words (opened a ids)) ≡ openCall w a ids → Opening a ids u
+  opening : Opens a ids → done (length ids ∷ []) (words (opened a ids)) ≡ openCall w a ids → IsOpening a ids u
   opening o g =
       let (table, sound) = read-back (reached-opened a ids o) (ap (λ (x : Outcome). x .after) (g ∙ f)) in
       record { opens = o; table = table; sound = sound }
 
-  pub open-opens : Opening a ids u
-  open-opens = elim (decLe 1 a) [
+  open-is : IsOpening a ids u
+  open-is = elim (decLe 1 a) [
     | no h ↦ never Size (open-none w a ids (omega arith)) f
     | yes some ↦ elim (decLe a mostSeats) [
       | no h ↦ never Size (open-many w a ids some (omega arith)) f
@@ -116,7 +105,7 @@ module _ (w u : List ℕ) (a : ℕ) (ids vs : List ℕ) (word : (i : ℕ) → id
     ]
   ]
     where
-      go : 1 ≤ a → a ≤ mostSeats → length w ≡ runLength a → 1 ≤ length ids → length ids ≤ a → (z t : Bool) → occurs 0 ids ≡ z → repeats ids ≡ t → Opening a ids u
+      go : 1 ≤ a → a ≤ mostSeats → length w ≡ runLength a → 1 ≤ length ids → length ids ≤ a → (z t : Bool) → occurs 0 ids ≡ z → repeats ids ≡ t → IsOpening a ids u
       go some most size one fit true t o r = never Zero (open-zero w a ids some most size one fit o) f
       go some most size one fit false true o r = never Twice (open-twice w a ids some most size one fit o r) f
       go some most size one fit false false o r =
@@ -124,3 +113,12 @@ module _ (w u : List ℕ) (a : ℕ) (ids vs : List ℕ) (word : (i : ℕ) → id
           opening
           (record { most = most; some = one; fit = fit; each = λ i h. (each i h, word i); apart = λ i j h l. apart ids r i j h l (each i (omega arith)) })
           (open-done w a ids some most size one fit o r)
+
+pub open-opens : OpenOpens
+open-opens = open-is
+
+pub out-changes : OutChanges
+out-changes = out-is
+
+pub seat-changes : SeatChanges
+seat-changes = seat-is

@@ -2,7 +2,7 @@
 -- Assumes nothing.
 use mathlib.Core.Path.{refl}
 use Rattle.promises.specs.One.{One}
-use Rattle.rules.specs.Answers.{Outcome, Leaves}
+use Rattle.rules.specs.Answers.{Outcome, Results}
 use Rattle.rules.proofs.One.{one-leaves, OneOf, is-ok, is-no, apart-by}
 use Rattle.changes.specs.declared.Opened.{Opened}
 use Rattle.changes.specs.declared.Opened.the-variants as opened
@@ -14,12 +14,12 @@ opened-is : (r : Opened) → OneOf opened.Seats opened.Refused r
 opened-is (opened.Seats n) = is-ok n
 opened-is (opened.Refused q) = is-no q
 
-pub one-opened : (x : Outcome) → One (Leaves openedAnswer x)
+pub one-opened : (x : Outcome) → One (Results openedAnswer x)
 one-opened = one-leaves (apart-by openedAnswer opened.Seats opened.Refused (λ v. refl) (λ q. refl) opened-is)
 
 changed-is : (r : Changed) → OneOf (λ b. changed.At (record { 0 = b })) changed.Refused r
 changed-is (changed.At b) = is-ok (b .0)
 changed-is (changed.Refused q) = is-no q
 
-pub one-changed : (x : Outcome) → One (Leaves changedAnswer x)
+pub one-changed : (x : Outcome) → One (Results changedAnswer x)
 one-changed = one-leaves (apart-by changedAnswer (λ b. changed.At (record { 0 = b })) changed.Refused (λ v. refl) (λ q. refl) changed-is)

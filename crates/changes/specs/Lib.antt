@@ -1,2 +1,3 @@
 pub mod Calls
+pub mod Accepted
 pub mod Steps

@@ -4,7 +4,7 @@ ghost use Prim.Native.Nat.{_<_, _≤_};
 ghost use Rattle.rules.specs.Table.{_!_, words, tableFor};
 ghost use Rattle.rules.specs.Changes.{lastOut, takeOut, seatId};
 ghost use Rattle.rules.specs.History.{Sound};
-ghost use Rattle.rules.specs.Answers.{Leaves};
+ghost use Rattle.rules.specs.Answers.{Results};
 ghost use Rattle.changes.specs.Steps.{Leads, CanTake, CanSeat};
 ghost use Rattle.changes.specs.Calls.{openedAnswer, changedAnswer, openCall, seatCall, outCall};
 use audit::Audited;
@@ -86,7 +86,7 @@ fn seat_last(t: &mut [u32], a: usize, id: u32) -> Seat
 // Seating in a sound table.
 fn seat_sound(t: &mut [u32], id: u32) -> Changed
     requires { ⌜ Sound (now t) ⌝ }
-    ensures { λ r. ⌜ Leaves changedAnswer (seatCall (now (t .entry)) id) (r, now (t .exit)) ⌝ }
+    ensures { λ r. ⌜ Results changedAnswer (seatCall (now (t .entry)) id) (r, now (t .exit)) ⌝ }
 {
     if id == 0 {
         return Changed::Refused(Refusal::Id);
@@ -103,7 +103,7 @@ fn seat_sound(t: &mut [u32], id: u32) -> Changed
 
 // Seating an id: the last seat out takes it.
 pub fn seat_server(t: &mut [u32], id: u32) -> Changed
-    ensures { λ r. ⌜ Leaves changedAnswer (seatCall (now (t .entry)) id) (r, now (t .exit)) ⌝ }
+    ensures { λ r. ⌜ Results changedAnswer (seatCall (now (t .entry)) id) (r, now (t .exit)) ⌝ }
 {
     let Audited::Refused(why) = audit_table(t) else {
         return seat_sound(t, id);
@@ -114,7 +114,7 @@ pub fn seat_server(t: &mut [u32], id: u32) -> Changed
 // Taking out of a sound table.
 fn out_sound(t: &mut [u32], id: u32) -> Changed
     requires { ⌜ Sound (now t) ⌝ }
-    ensures { λ r. ⌜ Leaves changedAnswer (outCall (now (t .entry)) id) (r, now (t .exit)) ⌝ }
+    ensures { λ r. ⌜ Results changedAnswer (outCall (now (t .entry)) id) (r, now (t .exit)) ⌝ }
 {
     if id == 0 {
         return Changed::Refused(Refusal::Id);
@@ -133,7 +133,7 @@ fn out_sound(t: &mut [u32], id: u32) -> Changed
 
 // Taking out the server of an id.
 pub fn take_out(t: &mut [u32], id: u32) -> Changed
-    ensures { λ r. ⌜ Leaves changedAnswer (outCall (now (t .entry)) id) (r, now (t .exit)) ⌝ }
+    ensures { λ r. ⌜ Results changedAnswer (outCall (now (t .entry)) id) (r, now (t .exit)) ⌝ }
 {
     let Audited::Refused(why) = audit_table(t) else {
         return out_sound(t, id);
@@ -143,7 +143,7 @@ pub fn take_out(t: &mut [u32], id: u32) -> Changed
 
 // Opening with a seats and a list of ids. What the run held is not looked at.
 pub fn open_table(t: &mut [u32], a: u32, ids: &[u32]) -> Opened
-    ensures { λ r. ⌜ Leaves openedAnswer (openCall (now (t .entry)) a (now (ids .entry))) (r, now (t .exit)) ⌝ }
+    ensures { λ r. ⌜ Results openedAnswer (openCall (now (t .entry)) a (now (ids .entry))) (r, now (t .exit)) ⌝ }
 {
     let seats = a as usize;
     if seats < 1 {

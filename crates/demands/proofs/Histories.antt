@@ -19,9 +19,10 @@ use Rattle.sound.proofs.Written.{written}
 use Rattle.sound.proofs.KeptOut.{still}
 use Rattle.sound.proofs.Steps.{kept, seat-leaves}
 use Rattle.sound.proofs.Reached.{Passes, leaves, changed-passes, opened-passes}
-use Rattle.changes.proofs.Accepted.{Changes, out-changes, seat-changes, open-opens}
-use Rattle.demands.specs.Histories.{struck, strike, lastGiven, Struck, Histories, Calls, end, out, seat, HistoriesOfCalls}
-use Rattle.demands.proofs.Stack.{Stack, empty, push, pop, emptied, Makes, nothing, next, makes-append, stack-makes, makes-same, makes-allowed}
+use Rattle.changes.specs.Accepted.{IsChange}
+use Rattle.changes.proofs.Accepted.{out-changes, seat-changes, open-opens}
+use Rattle.demands.specs.Histories.{struck, strike, lastGiven, Answers, read, removal, answer, alone, Struck, Histories, Calls, end, out, seat, HistoriesOfCalls}
+use Rattle.demands.proofs.Stack.{Stack, empty, top, push, pop, top-seat, emptied, Makes, nothing, next, makes-append, stack-makes, makes-same, makes-allowed}
 
 -- every word but the ids
 ends : {O B : Bare} {T : Table} {h over unanswered : List Change} → Accepted T h → Passes T → Makes O over B → Stack B unanswered (T .bare)
@@ -32,6 +33,15 @@ ends {unanswered = r ∷ unanswered} (then {c = seating id b} s ok) p m k = ends
 ends {O} {T = T} {unanswered = []} (then {c = seating id b} s ok) p m k =
     let m′ = rw (emptied k) at m in
     ends ok (changed-passes (seating id b) p s) (makes-append m′ (next (s .room, s .isLast) nothing)) empty
+
+-- the latest removal not answered so far is the last seat out
+answered : {B : Bare} {T : Table} {h unanswered : List Change} → Accepted T h → Passes T → Stack B unanswered (T .bare) → Answers unanswered h
+answered done p k = read
+answered (then {c = taking id b} s ok) p k = removal (answered ok (changed-passes (taking id b) p s) (push k p s))
+answered (then {c = seating id b} {h = h} s ok) p (top {id = old} {removals = removals} k g v e) =
+    let same = sym (top-seat g v e ∙ s .isLast) in
+    subst (λ (x : ℕ). Answers (taking old x ∷ removals) (seating id b ∷ h)) same (answer (answered ok (changed-passes (seating id b) p s) (pop (top {id = old} k g v e))))
+answered (then {c = seating id b} s ok) p empty = alone (answered ok (changed-passes (seating id b) p s) empty)
 
 -- the ids: where x is in use, it holds g now
 holds : {T : Table} {h : List Change} → Accepted T h → Passes T → (x g : ℕ) → (T .bare .A ! x ≡ 0 → T .S ! x ≡ g)
@@ -81,10 +91,11 @@ theorem a ids h o ok =
       held = λ x l. holds ok p x (ids ! x) (λ z. first-given ids (a - length ids) x);
       fewer = left-out [] [] h;
       allowed = makes-allowed m;
+      answers = answered ok p empty;
     }
 
 -- an accepted call, and what follows it
-call-accepted : {c : Change} {w u : List ℕ} {h : List Change} {last : Table} → Changes c w u → Accepted (tableOf u) h × (last ≡ run (tableOf u) h)
+call-accepted : {c : Change} {w u : List ℕ} {h : List Change} {last : Table} → IsChange c w u → Accepted (tableOf u) h × (last ≡ run (tableOf u) h)
     → Accepted (tableOf w) (c ∷ h) × (last ≡ run (tableOf w) (c ∷ h))
 call-accepted {h = h} c r = (then (c .accepts) (subst (λ (U : Table). Accepted U h) (c .table) (r .0)), r .1 ∙ ap (λ (U : Table). run U h) (c .table))
 

@@ -5,11 +5,12 @@ use mathlib.Core.Path.{_≡_, refl, sym, ap, _∙_, subst}
 use mathlib.Core.List.{List, [], _∷_, _++_, reverse, reverse-cons}
 use Prim.Native.Nat.{ℕ}
 use Rattle.rules.specs.Table.{Bare, Table}
-use Rattle.rules.specs.Changes.{out, seat}
+use Rattle.rules.specs.Changes.{out, seat, lastOut}
 use Rattle.rules.specs.History.{Change, taking, Takes}
 use Rattle.rules.specs.Keys.{move, moved}
 use Rattle.sound.specs.Kept.{Kept, Leaves}
-use Rattle.sound.proofs.Made.{undone}
+use Rattle.rules.proofs.Undo.{last-out}
+use Rattle.sound.proofs.Made.{undone, leaves-stands}
 use Rattle.sound.proofs.Steps.{kept}
 use Rattle.sound.proofs.Reached.{Passes, leaves}
 use Rattle.demands.specs.Histories.{reseat, Allows, Allowed, none, more}
@@ -24,6 +25,10 @@ push {T = T} k p s = top k (kept (T .bare) (p .test)) (leaves p s) refl
 
 pub pop : {B T : Bare} {c : Change} {removals : List Change} → Stack B (c ∷ removals) T → Stack B removals (seat T)
 pop {B} (top {removals = removals} k g v e) = subst (λ (X : Bare). Stack B removals X) (sym (undone g v) ∙ ap seat e) k
+
+-- the latest of them is the last seat out
+pub top-seat : {U T : Bare} {b : ℕ} → Kept U → Leaves U b → out U b ≡ T → b ≡ lastOut T
+top-seat g v e = sym (last-out (leaves-stands g v)) ∙ ap lastOut e
 
 pub emptied : {B T : Bare} → Stack B [] T → B ≡ T
 emptied empty = refl

@@ -24,7 +24,8 @@ use Rattle.ids.proofs.Meaning.{not-occurs}
 use Rattle.changes.specs.Calls.{seatCall, outCall}
 use Rattle.changes.proofs.Told.{seat-done, out-done}
 use Rattle.demands.specs.Undo.{seated, seatOf, idWord, Undo, Returns}
-use Rattle.changes.proofs.Accepted.{Changes, out-changes}
+use Rattle.changes.specs.Accepted.{IsChange}
+use Rattle.changes.proofs.Accepted.{out-changes}
 
 module _ (w : List ℕ) (server : ℕ) (s : Sound w) (two : 2 ≤ w ! 1) (some : server ≢ 0) (there : seated w server ≡ true) where
   abbrev T : Table
@@ -39,7 +40,7 @@ module _ (w : List ℕ) (server : ℕ) (s : Sound w) (two : 2 ≤ w ! 1) (some :
   accepted : outCall w server ≡ done (b ∷ []) v
   accepted = sym (out-done w server s some there (λ one. omega arith))
 
-  taken : Changes (taking server b) w v
+  taken : IsChange (taking server b) w v
   taken = out-changes w v server b s accepted
 
   stands : Stands (T .bare) b

@@ -45,15 +45,23 @@ lastGiven x id [] = id
 lastGiven x id (taking old b ∷ h) = lastGiven x id h
 lastGiven x id (seating new b ∷ h) = lastGiven x (cond (eqb b x) new id) h
 
+-- a seating fills the seat of the removal that it is struck with
+pub data Answers : (unanswered : List Change) → List Change → Type 0 where
+  read : {unanswered : List Change} → Answers unanswered []
+  removal : {id b : ℕ} {unanswered h : List Change} → Answers (taking id b ∷ unanswered) h → Answers unanswered (taking id b ∷ h)
+  answer : {old id b : ℕ} {unanswered h : List Change} → Answers unanswered h → Answers (taking old b ∷ unanswered) (seating id b ∷ h)
+  alone : {id b : ℕ} {h : List Change} → Answers [] h → Answers [] (seating id b ∷ h)
+
 -- the history h of the opening with a and ids left the table T
 pub record Struck (a : ℕ) (ids : List ℕ) (h : List Change) (T : Table) : Type 0 where
   -- every word but the ids
   pub bare : T .bare ≡ reseat (opened a ids .bare) (strike h)
   -- the ids; opening gave seat x id x of the list
   pub held : (x : ℕ) → x < a → T .bare .A ! x ≡ 0 → T .S ! x ≡ lastGiven x (ids ! x) h
-  -- striking leaves changes out and keeps the others in their order, and these are changes of seats that the opening allows
+  -- striking leaves changes out and keeps the others in their order, these are changes of seats that the opening allows, and a seating is struck with a removal of its seat
   pub fewer : Sublistᴰ (strike h) h
   pub allowed : Allowed (opened a ids .bare) (strike h)
+  pub answers : Answers [] h
 
 abbrev pub Histories : Type 0
 Histories = (a : ℕ) (ids : List ℕ) (h : List Change) → Opens a ids → Accepted (opened a ids) h → Struck a ids h (run (opened a ids) h)

@@ -14,11 +14,6 @@ use Rattle.saved.proofs.Fields.{stands-bytes}
 next : (i n : ℕ) → i + suc n ≡ suc i + n
 next i n = omega arith
 
--- a run of stores and the run after it
-pub sets-append : (l xs ys : List ℕ) (i : ℕ) → sets (sets l i xs) (i + length xs) ys ≡ sets l i (xs ++ ys)
-sets-append l [] ys i = ap (λ (k : ℕ). sets l k ys) (add-zero i)
-sets-append l (x ∷ xs) ys i = ap (λ (k : ℕ). sets (sets l i (x ∷ xs)) k ys) (next i (length xs)) ∙ sets-append _ xs ys (suc i)
-
 -- the last of a run may be stored first
 pub sets-last : (l xs : List ℕ) (i d : ℕ) → sets (set l (i + length xs) d) i xs ≡ sets l i (xs ++ (d ∷ []))
 sets-last l [] i d = ap (λ (k : ℕ). set l k d) (add-zero i)

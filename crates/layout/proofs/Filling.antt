@@ -9,9 +9,9 @@ use lib.ListN.{length, set, replicate, length-set, length-append, length-replica
 use lib.Seq.{ext-getD, getD-set-same, getD-set-other}
 use borrow.Author.Tests.{lt-ltb, le-ltb}
 use Rattle.rules.specs.Table.{_!_}
-use Rattle.rules.specs.Changes.{count, down}
+use Rattle.rules.specs.Changes.{count, down, openA, openR, openS}
 use Rattle.rules.proofs.Lists.{length-count, length-down, count-at, down-at, counted, zeros-at, padded}
-use Rattle.layout.specs.Layout.{openA, openR, openS, firstA, firstR, firstS}
+use Rattle.layout.specs.Layout.{firstA, firstR, firstS}
 
 -- l has the words of `whole` below i
 pub record Filled (whole l : List ℕ) (i : ℕ) : Type 0 where

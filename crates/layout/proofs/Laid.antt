@@ -7,11 +7,11 @@ use native.Mathlib.Omega.{arith}
 use lib.ListN.{length, take, drop, set, length-take, length-drop, length-set}
 use lib.Seq.{getD-set-same, drop-set-lt}
 use Rattle.rules.specs.Table.{_!_, Table, words, base, runLength, part, tableFor}
-use Rattle.rules.specs.Changes.{count, opened}
+use Rattle.rules.specs.Changes.{count, opened, openA, openR, openS, openBare}
 use Rattle.rules.proofs.Lists.{length-count}
 use Rattle.rules.proofs.Parts.{none, more}
 use Rattle.rules.proofs.Words.{Holds, holds-table, holds-with, holds-count}
-use Rattle.layout.specs.Layout.{openA, openR, openS, withPart, openBare}
+use Rattle.layout.specs.Layout.{withPart}
 use Rattle.layout.proofs.Filling.{length-openA, length-openR, length-openS}
 
 -- part k is lent from lo on, and filled by its length

@@ -3,9 +3,9 @@ ghost use mathlib.Core.Path.{_≡_};
 ghost use Prim.Native.Nat.{_+_, _<_, _≤_, _^_};
 ghost use lib.ListN.{length, set};
 ghost use Rattle.rules.specs.Table.{Table, base, words, tableFor};
-ghost use Rattle.rules.specs.Changes.{count, opened};
+ghost use Rattle.rules.specs.Changes.{count, opened, openA, openR, openS, openBare};
 ghost use Rattle.parts.specs.Shape.{Shape};
-ghost use Rattle.layout.specs.Layout.{firstA, firstR, firstS, openA, openR, openS, withPart, openBare};
+ghost use Rattle.layout.specs.Layout.{firstA, firstR, firstS, withPart};
 use parts::start;
 
 // What opening with w ids writes for seat i in A, for entry i of R of a seats, and for seat i in S.

@@ -9,13 +9,12 @@ use native.Mathlib.Numerals.{add-one}
 use lib.ListN.{length, set, replicate, length-set}
 use borrow.Author.Tests.{eq-eqb, ne-eqb}
 use Rattle.rules.specs.Table.{_!_, Bare, Table, parts, words, base, runLength, tableFor}
-use Rattle.rules.specs.Changes.{out, takeOut}
+use Rattle.rules.specs.Changes.{out, takeOut, openBare}
 use Rattle.rules.specs.Keys.{full}
 use Rattle.rules.proofs.Parts.{All, none, more}
 use Rattle.rules.proofs.Words.{Holds, holds-put, tableOf-words, length-words}
 use Rattle.sound.specs.Form.{after}
 use Rattle.sound.proofs.Made.{After, after-is, fewer-still}
-use Rattle.layout.specs.Layout.{openBare}
 use Rattle.layout.proofs.Filling.{Filled, filled-none, filled-more, filled-all}
 use Rattle.changes.specs.Steps.{Leads, CanTake}
 use Rattle.changes.proofs.Ready.{can-leave}

@@ -7,7 +7,7 @@ use native.Mathlib.Numerals.{add-one}
 use lib.ListN.{length}
 use lib.Seq.{sets}
 use Rattle.saved.specs.Record.{each}
-use Rattle.fields.proofs.Stores.{sets-append}
+use Rattle.rules.proofs.Lists.{sets-append}
 
 module _ (o o₁ o₂ : List ℕ) (at next : ℕ) where
   pub put-then : (x y : List ℕ) → next ≡ at + length x → o₁ ≡ sets o at x → o₂ ≡ sets o₁ next y → o₂ ≡ sets o at (x ++ y)

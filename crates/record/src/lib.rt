@@ -6,7 +6,7 @@ ghost use lib.Seq.{sets};
 ghost use Rattle.rules.specs.Table.{words, tableFor, base};
 ghost use Rattle.rules.specs.History.{Sound};
 ghost use Rattle.parts.specs.Shape.{Shape};
-ghost use Rattle.rules.specs.Answers.{Leaves};
+ghost use Rattle.rules.specs.Answers.{Results};
 ghost use Rattle.saved.specs.Reader.{rank, serverOf, tableFrom};
 ghost use Rattle.saved.specs.Record.{field, headRecord, outRecord, inRecord, each, seatRecord, removalRecord};
 ghost use Rattle.record.specs.Building.{Laid, Good, Next};
@@ -119,7 +119,7 @@ fn put_ins(out: &mut [u8], at: usize, t: &[u32], a: usize)
 // Saving a sound table.
 fn save_sound(t: &[u32], out: &mut [u8]) -> Saved
     requires { ⌜ Sound (now t) ⌝ }
-    ensures { λ r. ⌜ Leaves savedAnswer (saveCall (now (t .entry)) (now (out .entry))) (r, now (out .exit)) ⌝ }
+    ensures { λ r. ⌜ Results savedAnswer (saveCall (now (t .entry)) (now (out .entry))) (r, now (out .exit)) ⌝ }
 {
     let a = t[0] as usize;
     let n = t[1] as usize;
@@ -136,7 +136,7 @@ fn save_sound(t: &[u32], out: &mut [u8]) -> Saved
 
 // Saving a table as a record, in the first bytes of the output.
 pub fn save(t: &[u32], out: &mut [u8]) -> Saved
-    ensures { λ r. ⌜ Leaves savedAnswer (saveCall (now (t .entry)) (now (out .entry))) (r, now (out .exit)) ⌝ }
+    ensures { λ r. ⌜ Results savedAnswer (saveCall (now (t .entry)) (now (out .entry))) (r, now (out .exit)) ⌝ }
 {
     let Audited::Refused(why) = audit_table(t) else {
         return save_sound(t, out);
@@ -198,7 +198,7 @@ fn build(t: &mut [u32], s: &[u8], a: usize, n: usize)
 
 // Loading a record. Nothing is written before the whole record and the run's length are known to be good.
 pub fn load(t: &mut [u32], s: &[u8]) -> Loaded
-    ensures { λ r. ⌜ Leaves loadedAnswer (loadCall (now (t .entry)) (now (s .entry))) (r, now (t .exit)) ⌝ }
+    ensures { λ r. ⌜ Results loadedAnswer (loadCall (now (t .entry)) (now (s .entry))) (r, now (t .exit)) ⌝ }
 {
     let Form::Of(a, n) = form_of(s) else {
         return Loaded::Refused(Refusal::Form);

@@ -3,10 +3,11 @@
 use mathlib.Core.Path.{_≡_, refl, sym, ap, _∙_}
 use mathlib.Core.List.{List, [], _∷_, _++_}
 use Prim.Native.Nat.{ℕ, zero, suc, _+_, _-_, _<_, _≤_}
+use native.Mathlib.Nat.{add-zero}
 use native.Mathlib.Omega.{arith}
 use native.Mathlib.Decide.{ℕ-discrete}
 use lib.ListN.{length, set, replicate}
-use lib.Seq.{getD-set-other, set-getD, set-set}
+use lib.Seq.{getD-set-other, set-getD, set-set, sets}
 use mathlib.Core.Logic.{_≢_}
 use Rattle.rules.specs.Table.{_!_}
 use Rattle.rules.specs.Changes.{count, down}
@@ -59,3 +60,10 @@ set-back l i x y e = set-set l i x y ∙ ap (λ (v : ℕ). set l i v) (sym e) �
 -- seats with different words are different
 pub differ : (l : List ℕ) {x y : ℕ} → l ! x ≢ l ! y → x ≢ y
 differ l ne e = ne (ap (λ (i : ℕ). l ! i) e)
+
+-- a run of stores and the run after it
+pub sets-append : (l xs ys : List ℕ) (i : ℕ) → sets (sets l i xs) (i + length xs) ys ≡ sets l i (xs ++ ys)
+sets-append l [] ys i = ap (λ (k : ℕ). sets l k ys) (add-zero i)
+sets-append l (x ∷ xs) ys i =
+    let next : i + suc (length xs) ≡ suc i + length xs = omega arith in
+    ap (λ (k : ℕ). sets (sets l i (x ∷ xs)) k ys) next ∙ sets-append _ xs ys (suc i)

@@ -5,7 +5,7 @@ use mathlib.Core.List.{List, [], _∷_}
 use Prim.Native.Nat.{ℕ}
 use Rattle.promises.specs.One.{One}
 use Rattle.promises.proofs.One.{one-read}
-use Rattle.rules.specs.Answers.{Answer, fine, refused, Outcome, outcome, Says, Leaves}
+use Rattle.rules.specs.Answers.{Answer, fine, refused, Outcome, outcome, Says, Results}
 use Rattle.rules.specs.declared.Refusal.{Refusal}
 use Rattle.rules.proofs.Numbers.{not-fine, refused-injective}
 
@@ -15,7 +15,7 @@ Apart {R} answer = (r s : R) → answer r ≡ answer s → r ≡ s
 pub one-says : {R : Type 0} {answer : R → Answer} → Apart answer → (x : Answer) → One (Says answer x)
 one-says {answer = answer} apart = one-read answer apart
 
-pub one-leaves : {R : Type 0} {answer : R → Answer} → Apart answer → (x : Outcome) → One (Leaves answer x)
+pub one-leaves : {R : Type 0} {answer : R → Answer} → Apart answer → (x : Outcome) → One (Results answer x)
 one-leaves {R} {answer} apart =
     one-read (λ (o : R × List ℕ). outcome (answer (o .0)) (o .1))
     (λ o p e.

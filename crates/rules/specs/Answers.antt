@@ -44,8 +44,8 @@ abbrev pub Says : {R : Type 0} → (R → Answer) → Answer → R → Type 0
 Says answer x r = answer r ≡ x
 
 -- and where words or bytes are lent for writing: the result, and these after it
-abbrev pub Leaves : {R : Type 0} → (R → Answer) → Outcome → R × List ℕ → Type 0
-Leaves answer x o = outcome (answer (o .0)) (o .1) ≡ x
+abbrev pub Results : {R : Type 0} → (R → Answer) → Outcome → R × List ℕ → Type 0
+Results answer x o = outcome (answer (o .0)) (o .1) ≡ x
 
 -- a refusal leaves all lent memory unchanged
 abbrev pub refusedAt : List ℕ → Refusal → Outcome

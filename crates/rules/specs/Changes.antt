@@ -14,22 +14,22 @@ abbrev pub down : ℕ → ℕ → List ℕ
 down zero i = []
 down (suc n) i = i ∷ down n (i - 1)
 
--- Opening with a and a list of ids
+-- Opening with a and a list of w ids: A is 0 below w, and b at b from there on; K, W and L have b at b; a - 1 down to w are in R
+abbrev pub openA : ℕ → ℕ → List ℕ
+openA a w = replicate w 0 ++ count (a - w) w
+
+abbrev pub openR : ℕ → ℕ → List ℕ
+openR a w = down (a - w) (a - 1) ++ replicate w 0
+
+abbrev pub openBare : ℕ → ℕ → Bare
+openBare a w = record { seats = a; used = w; A = openA a w; K = count a 0; W = count a 0; L = count a 0; R = openR a w }
+
+-- seat i gets id i of the list
+abbrev pub openS : ℕ → List ℕ → List ℕ
+openS a ids = ids ++ replicate (a - length ids) 0
+
 unfoldable pub opened : ℕ → List ℕ → Table
-opened a ids =
-    let w = length ids in
-    record {
-      bare = record {
-        seats = a;
-        used = w;
-        A = replicate w 0 ++ count (a - w) w;
-        K = count a 0;
-        W = count a 0;
-        L = count a 0;
-        R = down (a - w) (a - 1) ++ replicate w 0;
-      };
-      S = ids ++ replicate (a - w) 0;
-    }
+opened a ids = record { bare = openBare a (length ids); S = openS a ids }
 
 -- Taking out the seat b, with the ids set aside
 abbrev pub out : Bare → ℕ → Bare

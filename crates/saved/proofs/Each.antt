@@ -16,11 +16,6 @@ pub length-each : (f : ℕ → List ℕ) (k n : ℕ) → ((i : ℕ) → length (
 length-each f k zero h = omega arith
 length-each f k (suc n) h = length-append (each f n) (f n) ∙ omega (arith, length-each f k n h, h n)
 
--- only the first n matter
-pub each-same : (f g : ℕ → List ℕ) (n : ℕ) → ((i : ℕ) → i < n → f i ≡ g i) → each f n ≡ each g n
-each-same f g zero h = refl
-each-same f g (suc n) h = ap₂ (λ (x y : List ℕ). x ++ y) (each-same f g n (λ i l. h i (omega arith))) (h n (omega arith))
-
 -- the first i end within the first n
 pub length-within : (f : ℕ → List ℕ) (n i : ℕ) → i < n → length (each f i) + length (f i) ≤ length (each f n)
 length-within f zero i h = absurd (omega arith)

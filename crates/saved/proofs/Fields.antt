@@ -4,9 +4,8 @@
 use mathlib.Core.Path.{_≡_, refl, sym, ap, ap₂, _∙_}
 use mathlib.Core.List.{List, [], _∷_, _++_}
 use Prim.Native.Nat.{ℕ, zero, suc, _+_, _*_, _/_, _%_, _^_, _<_, _≤_}
-use native.Mathlib.Nat.{mod-eq-of-lt, div-eq-of-lt, mul-add-mod-self-right, mul-add-div-right, div-add-mod', div-lt-iff-lt-mul, add-zero}
+use native.Mathlib.Nat.{mod-eq-of-lt, div-eq-of-lt, mul-add-mod-self-right, mul-add-div-right, div-add-mod', div-lt-iff-lt-mul, add-zero, pow-suc}
 use native.Mathlib.Omega.{arith}
-use native.Mathlib.Nat.{pow-suc}
 use lib.ListN.{length, take, drop, length-append, length-drop}
 use lib.Seq.{take-suc, take-take, take-add, take-append-seam, drop-append-seam, drop-drop, getD-take, getD-drop, take-length, length-take-le, ext-getD}
 use Rattle.rules.specs.Table.{_!_}

@@ -229,9 +229,3 @@ canonical F t =
 
 pub audit : (T : Bare) → Test T ↔ Canonical T
 audit T = (canonical T, λ c. rw (c .isMade) (made-passes (T .seats) (c .rs) (length (c .rs)) (c .takeable)))
-
--- those seats are the first of R
-pub rs-first : (T : Bare) (c : Canonical T) → c .rs ≡ take (T .seats - T .used) (T .R)
-rs-first T c =
-    let m : Made (T .seats) (c .rs) T = subst (λ (X : Bare). Made (T .seats) (c .rs) X) (sym (c .isMade)) (theorem (T .seats) (c .rs) (c .takeable)) in
-    sym (rw (m .isR) (take-at (c .rs) _ (T .seats - T .used) (omega (arith, c .takeable .fewer))))

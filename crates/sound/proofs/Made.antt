@@ -138,12 +138,3 @@ leaves-stands {T} {b} g v =
 -- so seating puts back what taking out wrote
 pub undone : {T : Bare} {b : ℕ} → Kept T → Leaves T b → seat (out T b) ≡ T
 undone g v = undo (leaves-stands g v)
-
-pub made-undo : (a : ℕ) (rs : List ℕ) (b : ℕ) → Takeable a (rs ++ (b ∷ [])) (suc (length rs)) → seat (made a (rs ++ (b ∷ []))) ≡ made a rs
-unfolding after
-made-undo a rs b t =
-    let k = length rs in
-    let ss = rs ++ (b ∷ []) in
-    let d = after-is a ss k (fewer-still t (omega arith)) in
-    let longer : length ss ≡ suc k = length-append rs (b ∷ []) ∙ add-one k in
-    ap (λ (j : ℕ). seat (after a ss j)) longer ∙ undone (d .kept) (next-leaves t d) ∙ after-first a ss rs k (λ i h. List·getD-append rs (b ∷ []) 0 i h)

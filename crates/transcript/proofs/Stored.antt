@@ -9,13 +9,8 @@ use native.Mathlib.Omega.{arith}
 use lib.ListN.{length, take, drop, set, length-append}
 use lib.Seq.{sets, length-sets, sets-eq, take-suc, length-take-le, take-at, drop-at}
 use Rattle.rules.specs.Table.{_!_}
+use Rattle.rules.proofs.Lists.{sets-append}
 use Rattle.transcript.specs.Replies.{Put}
-
-pub sets-append : (l xs ys : List ℕ) (i : ℕ) → sets (sets l i xs) (i + length xs) ys ≡ sets l i (xs ++ ys)
-sets-append l [] ys i = ap (λ (k : ℕ). sets l k ys) (add-zero i)
-sets-append l (x ∷ xs) ys i =
-    ap (λ (k : ℕ). sets (sets l i (x ∷ xs)) k ys) (add-suc i (length xs) ∙ sym (suc-add i (length xs)))
-    ∙ sets-append _ xs ys (suc i)
 
 -- one byte more of s
 pub sets-more : (l s : List ℕ) (at i : ℕ) → i < length s → set (sets l at (take i s)) (at + i) (s ! i) ≡ sets l at (take (i + 1) s)

@@ -4,7 +4,8 @@ use borrow.Author.Needs.{needs}
 use mathlib.Core.Path.{_∙_, ap}
 use mathlib.Core.List.{List}
 use Rattle.rules.specs.Table.{part}
-use Rattle.layout.specs.Layout.{openS, withPart}
+use Rattle.rules.specs.Changes.{openS}
+use Rattle.layout.specs.Layout.{withPart}
 use Rattle.layout.proofs.Laid.{part-long, laid-out}
 use Rattle.layout.proofs.lay_out.Statement.{statement}
 use Rattle.layout.proofs.lay_out.Tie as tie

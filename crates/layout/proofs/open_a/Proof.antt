@@ -2,7 +2,7 @@
 -- Assumes nothing.
 use borrow.Author.Needs.{needs}
 use Prim.Native.Nat.{ℕ}
-use Rattle.layout.specs.Layout.{openA}
+use Rattle.rules.specs.Changes.{openA}
 use Rattle.layout.proofs.Laid.{part-filled}
 use Rattle.layout.proofs.open_a.Statement.{statement}
 use Rattle.layout.proofs.open_a.Tie as tie

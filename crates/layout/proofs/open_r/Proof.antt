@@ -2,7 +2,7 @@
 -- Assumes nothing.
 use borrow.Author.Needs.{needs}
 use Prim.Native.Nat.{ℕ}
-use Rattle.layout.specs.Layout.{openR}
+use Rattle.rules.specs.Changes.{openR}
 use Rattle.layout.proofs.Laid.{part-filled}
 use Rattle.layout.proofs.open_r.Statement.{statement}
 use Rattle.layout.proofs.open_r.Tie as tie

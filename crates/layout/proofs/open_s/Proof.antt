@@ -2,7 +2,7 @@
 -- Assumes nothing.
 use borrow.Author.Needs.{needs}
 use Prim.Native.Nat.{ℕ}
-use Rattle.layout.specs.Layout.{openS}
+use Rattle.rules.specs.Changes.{openS}
 use Rattle.layout.proofs.Laid.{part-filled}
 use Rattle.layout.proofs.open_s.Statement.{statement}
 use Rattle.layout.proofs.open_s.Tie as tie
