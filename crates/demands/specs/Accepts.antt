@@ -1,5 +1,5 @@
--- A history accepts what the calls accept: an opening or a change that document 01's conditions allow is not refused, and leaves what the history says. That nothing else
--- is accepted is `changes/proofs/Accepted`.
+-- Demand 2, "each call answers as the AnchorHash of document 01 does". The calls accept what a history accepts: an opening or a change that document 01's conditions allow is not
+-- refused, and leaves what the history says. That nothing else is accepted is `changes/specs/Accepted`.
 use mathlib.Core.Path.{_≡_}
 use mathlib.Core.List.{List, [], _∷_}
 use Prim.Native.Nat.{ℕ}

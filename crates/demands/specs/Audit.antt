@@ -1,4 +1,4 @@
--- The audit says yes exactly for sound tables.
+-- Demand 2: "The audit says yes exactly for sound tables."
 use mathlib.Core.Path.{_≡_}
 use mathlib.Core.List.{List, []}
 use Prim.Native.Nat.{ℕ}

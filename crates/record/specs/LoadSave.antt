@@ -1,4 +1,4 @@
--- Saving what loading built gives every byte back: of each record s, through any run w of its table's length, whatever that held.
+-- Demand 2, "Saving and loading are exact opposites". Saving what loading built gives every byte back: of each record s, through any run w of its table's length, whatever that held.
 use mathlib.Core.Path.{_≡_}
 use mathlib.Core.List.{List, [], _∷_, _++_}
 use Prim.Native.Nat.{ℕ, _≤_}

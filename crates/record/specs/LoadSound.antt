@@ -1,4 +1,4 @@
--- What loading builds is sound.
+-- Document 01, FORM: "the bytes are no record of any sound table". So what loading builds is sound.
 use mathlib.Core.Path.{_≡_}
 use mathlib.Core.List.{List, [], _∷_}
 use Prim.Native.Nat.{ℕ}

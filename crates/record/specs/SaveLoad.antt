@@ -1,4 +1,4 @@
--- Loading what saving wrote gives every word back: of each sound run w, into any run w′ of its length, whatever the output held.
+-- Demand 2, "Saving and loading are exact opposites". Loading what saving wrote gives every word back: of each sound run w, into any run w′ of its length, whatever the output held.
 use mathlib.Core.Path.{_≡_}
 use mathlib.Core.List.{List, [], _∷_}
 use Prim.Native.Nat.{ℕ, _≤_}

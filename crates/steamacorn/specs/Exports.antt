@@ -1,4 +1,4 @@
--- How an exported function tells the outcome of the call that it stands for.
+-- For C: how an exported function tells the outcome of the call that it stands for.
 use mathlib.Core.Path.{_≡_}
 use mathlib.Core.Bool.{cond}
 use mathlib.Core.List.{List}
