@@ -1,14 +1,14 @@
 -- The pass is exact: a run of legal shape is sound if and only if N is from 1 to a, every index passes and no id occurs twice.
 -- Assumes nothing.
-use mathlib.Core.Path.{_≡_, refl, sym, _∙_}
-use mathlib.Core.Bool.{Bool, true, false}
+use mathlib.Core.Path.{_≡_, sym, _∙_}
+use mathlib.Core.Bool.{false}
 use mathlib.Core.List.{List}
 use mathlib.Core.Logic.{_≢_, inl, inr}
 use Prim.Native.Nat.{ℕ, _+_, _-_, _<_, _≤_, _^_}
 use native.Mathlib.Omega.{arith}
 use native.Mathlib.Decide.{ℕ-discrete, decLt}
 use lib.ListN.{length, List·getD-eq-default}
-use Rattle.rules.specs.Table.{_!_, Table, base, tableOf, legal}
+use Rattle.rules.specs.Table.{_!_, Table, base, tableOf}
 use Rattle.rules.specs.History.{Sound}
 use Rattle.rules.specs.Ids.{repeats}
 use Rattle.rules.proofs.Words.{Legal, part-length, part-word}
@@ -16,7 +16,7 @@ use Rattle.sound.specs.Form.{Ids}
 use Rattle.sound.proofs.Reached.{Passes, passes, reached}
 use Rattle.sound.proofs.Sound.{sound-table, table-sound}
 use Rattle.ids.proofs.Meaning.{apart, not-repeats}
-use Rattle.audit.specs.Pass.{SeatPasses, RemovalPasses, AllPass}
+use Rattle.audit.specs.Pass.{AllPass}
 
 pub record Pass (w : List ℕ) : Type 0 where
   pub some : 1 ≤ w ! 1

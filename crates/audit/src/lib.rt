@@ -1,7 +1,5 @@
 // The audit: whether a lent run is a sound table, told in one pass that reads and never writes.
-ghost use mathlib.Core.Path.{_≡_};
-ghost use Prim.Native.Nat.{_<_, _≤_};
-ghost use lib.ListN.{length};
+ghost use Prim.Native.Nat.{_<_};
 ghost use Rattle.rules.specs.Table.{_!_, tableFor};
 ghost use Rattle.rules.specs.Answers.{Says};
 ghost use Rattle.sound.specs.Test.{Owes};

@@ -1,11 +1,11 @@
 -- The stores of a change, one after the other, leave the words of the change.
 -- Assumes nothing.
-use mathlib.Core.Path.{_≡_, refl, sym, ap, _∙_}
+use mathlib.Core.Path.{_≡_, refl, ap, _∙_}
 use mathlib.Core.List.{List, [], _∷_}
-use Prim.Native.Nat.{ℕ, _+_, _-_, _<_}
+use Prim.Native.Nat.{ℕ, _+_, _-_}
 use native.Mathlib.Omega.{arith}
 use lib.ListN.{set}
-use Rattle.rules.specs.Table.{_!_, Bare, Table, parts, words, base, part, tableFor}
+use Rattle.rules.specs.Table.{_!_, Table, parts, words, base, part, tableFor}
 use Rattle.rules.specs.Changes.{lastOut, takeOut, seatId}
 use Rattle.rules.proofs.Words.{Holds, holds-table, holds-put, holds-count, holds-part}
 use Rattle.changes.specs.Steps.{Leads, CanTake, CanSeat}

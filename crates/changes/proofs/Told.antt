@@ -1,6 +1,6 @@
 -- What each way out of a call on a sound table answers.
 -- Assumes nothing.
-use mathlib.Core.Path.{_≡_, refl}
+use mathlib.Core.Path.{_≡_}
 use mathlib.Core.Bool.{true, false, not}
 use mathlib.Core.List.{List, [], _∷_}
 use mathlib.Core.Logic.{_≢_}
@@ -17,7 +17,7 @@ use Rattle.rules.specs.declared.Refusal.{Refusal}
 use Rattle.rules.specs.declared.Refusal.the-variants.{Size, Count, Id, Twice, Full, Absent, Last}
 use Rattle.rules.proofs.Words.{legal-is}
 use Rattle.sound.proofs.Sound.{sound-legal}
-use Rattle.audit.specs.Audit.{isSound, auditCall}
+use Rattle.audit.specs.Audit.{auditCall}
 use Rattle.audit.proofs.Told.{refused-first}
 use Rattle.audit.proofs.Answers.{is-sound}
 use Rattle.changes.specs.Calls.{openCall, seatCall, outCall}

@@ -1,10 +1,10 @@
 -- Document 01, 'Numbers a call can answer': opening, seating and taking out. Each gives the answer and the run after it, on all inputs.
-use mathlib.Core.Bool.{Bool, not, _&&_}
+use mathlib.Core.Bool.{not, _&&_}
 use mathlib.Core.List.{List, [], _∷_}
 use Prim.Native.Nat.{ℕ}
 use lib.ListN.{length}
 use lib.Dec.{leb, eqb}
-use Rattle.rules.specs.Table.{Table, words, runLength, mostSeats, tableOf, legal}
+use Rattle.rules.specs.Table.{words, runLength, mostSeats, tableOf, legal}
 use Rattle.rules.specs.Changes.{opened, lastOut, takeOut, seatId}
 use Rattle.rules.specs.Ids.{occurs, repeats, placeOf}
 use Rattle.rules.specs.Answers.{Answer, fine, refused, Outcome, refusedAt, done, _⇒_, firstThat}

@@ -1,6 +1,6 @@
 // The changes of a table: opening, seating, taking out.
 ghost use mathlib.Core.Path.{_≡_};
-ghost use Prim.Native.Nat.{_<_, _≤_};
+ghost use Prim.Native.Nat.{_<_};
 ghost use Rattle.rules.specs.Table.{_!_, words, tableFor};
 ghost use Rattle.rules.specs.Changes.{lastOut, takeOut, seatId};
 ghost use Rattle.rules.specs.History.{Sound};

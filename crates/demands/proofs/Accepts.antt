@@ -1,11 +1,11 @@
 -- A history accepts what the calls accept.
 -- Assumes nothing.
 use mathlib.Core.Path.{_≡_, sym, ap, _∙_}
-use mathlib.Core.List.{List, [], _∷_}
+use mathlib.Core.List.{[], _∷_}
 use Prim.Native.Nat.{ℕ, _<_}
 use native.Mathlib.Omega.{arith}
 use lib.ListN.{length}
-use Rattle.rules.specs.Table.{_!_, words, tableOf}
+use Rattle.rules.specs.Table.{words, tableOf}
 use Rattle.rules.specs.Changes.{takeOut, seatId}
 use Rattle.rules.specs.History.{taking, seating}
 use Rattle.rules.specs.Ids.{placeOf}

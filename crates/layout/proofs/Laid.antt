@@ -1,12 +1,12 @@
 -- The parts of an opening, laid out one after the other, are its words.
 -- Assumes nothing.
-use mathlib.Core.Path.{_≡_, refl, sym, ap, _∙_}
+use mathlib.Core.Path.{_≡_, refl, ap, _∙_}
 use mathlib.Core.List.{List, [], _∷_, _++_}
-use Prim.Native.Nat.{ℕ, _+_, _-_, _<_, _≤_}
+use Prim.Native.Nat.{ℕ, _+_, _-_, _≤_}
 use native.Mathlib.Omega.{arith}
 use lib.ListN.{length, take, drop, set, length-take, length-drop, length-set}
 use lib.Seq.{getD-set-same, drop-set-lt}
-use Rattle.rules.specs.Table.{_!_, Table, words, base, runLength, part, tableFor}
+use Rattle.rules.specs.Table.{Table, words, base, runLength, part}
 use Rattle.rules.specs.Changes.{count, opened, openA, openR, openS, openBare}
 use Rattle.rules.proofs.Lists.{length-count}
 use Rattle.rules.proofs.Parts.{none, more}

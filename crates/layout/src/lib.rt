@@ -2,7 +2,7 @@
 ghost use mathlib.Core.Path.{_≡_};
 ghost use Prim.Native.Nat.{_+_, _<_, _≤_, _^_};
 ghost use lib.ListN.{length, set};
-ghost use Rattle.rules.specs.Table.{Table, base, words, tableFor};
+ghost use Rattle.rules.specs.Table.{base, words, tableFor};
 ghost use Rattle.rules.specs.Changes.{count, opened, openA, openR, openS, openBare};
 ghost use Rattle.parts.specs.Shape.{Shape};
 ghost use Rattle.layout.specs.Layout.{firstA, firstR, firstS, withPart};

@@ -1,7 +1,7 @@
 -- Words and commands of a line.
 -- Assumes nothing.
-use mathlib.Core.Path.{_≡_, refl, sym, ap, _∙_}
-use mathlib.Core.Bool.{Bool, true, false, _&&_}
+use mathlib.Core.Path.{_≡_, refl, sym, ap}
+use mathlib.Core.Bool.{true, false}
 use mathlib.Core.List.{List, [], _∷_}
 use mathlib.Core.Logic.{_≢_}
 use Prim.Native.Nat.{ℕ, _+_, _<_, _≤_}
@@ -10,9 +10,9 @@ use native.Mathlib.Omega.{arith}
 use lib.ListN.{length, getD, drop, drop-of-length-le}
 use lib.Seq.{drop-cons}
 use borrow.Author.Tests.{eq-eqb, ne-eqb}
-use Rattle.lines.specs.Lines.{Read, got, bad, next, last, given, mostId, mostKey, withA, idsBehind, idsOf, starts, openWord, seatWord, outWord, findWord, Command, seatLine, outLine, findLine, unknown, commandOf}
+use Rattle.lines.specs.Lines.{Read, got, bad, next, last, given, mostId, mostKey, withA, idsBehind, starts, openWord, seatWord, outWord, findWord, seatLine, outLine, findLine, unknown, commandOf}
 use Rattle.lines.specs.Readings.{idsRead}
-use Rattle.lines.proofs.Got.{Got, not-got, next-got}
+use Rattle.lines.proofs.Got.{not-got, next-got}
 
 -- starts, from the place i on
 

@@ -1,15 +1,15 @@
 -- What is known of a number that was read: it is within its limit, and the line is shorter behind it.
 -- Assumes nothing.
-use mathlib.Core.Path.{_≡_, refl, sym, ap}
+use mathlib.Core.Path.{_≡_, refl, ap}
 use mathlib.Core.Bool.{Bool, true, false, cond, _&&_}
 use mathlib.Core.List.{List, [], _∷_}
-use Prim.Native.Nat.{ℕ, _+_, _*_, _-_, _<_, _≤_}
+use Prim.Native.Nat.{ℕ, _+_, _*_, _-_, _≤_}
 use native.Mathlib.Omega.{arith}
 use lib.ListN.{length}
 use lib.Dec.{leb, eqb}
-use borrow.Author.Tests.{leb-true, eqb-true, ne-eqb}
+use borrow.Author.Tests.{leb-true, ne-eqb}
 use Rattle.promises.proofs.Decided.{both}
-use Rattle.lines.specs.Lines.{Read, got, bad, isDigit, digits, zeroAlone, number, next}
+use Rattle.lines.specs.Lines.{got, bad, isDigit, digits, zeroAlone, number, next}
 
 -- at least k bytes were read, and the value is at most lim
 pub record Got (lim k : ℕ) (bs : List ℕ) (x : ℕ) (rest : List ℕ) : Type 0 where

@@ -1,12 +1,11 @@
 -- How long a line is that the program knows: a word, a space and a digit.
 -- Assumes nothing.
-use mathlib.Core.Path.{_≡_, refl, sym, ap, _∙_}
-use mathlib.Core.Bool.{Bool, true, false, cond, _&&_}
+use mathlib.Core.Path.{_≡_, refl}
+use mathlib.Core.Bool.{Bool, true, false, cond}
 use mathlib.Core.List.{List, [], _∷_}
 use Prim.Native.Nat.{ℕ, suc, _+_, _≤_}
 use native.Mathlib.Omega.{arith}
 use lib.ListN.{length, drop, length-drop}
-use lib.Dec.{eqb}
 use Rattle.lines.specs.Lines.{Read, got, bad, next, last, given, mostId, mostKey, opens, withA, idsOf, starts, openWord, seatWord, outWord, findWord, Command, openLine, seatLine, outLine, findLine, unknown, commandOf}
 use Rattle.lines.proofs.Got.{next-got}
 

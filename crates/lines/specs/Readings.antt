@@ -5,7 +5,6 @@ use mathlib.Core.List.{List, [], _++_}
 use Prim.Native.Nat.{ℕ}
 use lib.ListN.{length, drop}
 use Rattle.lines.specs.Lines.{Read, got, bad, Ids, next, last, given, mostId, mostKey, idsOf, idsBehind, withA, starts, openWord, Command, openLine, seatLine, outLine, findLine, unknown}
-use Rattle.lines.specs.declared.Word.{Word}
 use Rattle.lines.specs.declared.Word.the-variants as word
 use Rattle.lines.specs.declared.First.{First}
 use Rattle.lines.specs.declared.First.the-variants as first

@@ -1,15 +1,14 @@
 -- What `size_of` tells of a run.
 -- Assumes nothing.
-use mathlib.Core.Path.{_≡_, refl, ap}
+use mathlib.Core.Path.{_≡_, refl}
 use mathlib.Core.Bool.{Bool, true, false, cond}
 use mathlib.Core.List.{List}
 use Prim.Native.Nat.{ℕ, _≤_}
 use native.Mathlib.Omega.{arith}
 use Rattle.rules.specs.Table.{_!_, legal}
 use Rattle.parts.specs.Shape.{sizeOf, Shape}
-use Rattle.parts.specs.declared.Size.{Size}
 use Rattle.parts.specs.declared.Size.the-variants.{Seats, Illegal}
-use Rattle.rules.proofs.Words.{Legal, is-legal}
+use Rattle.rules.proofs.Words.{is-legal}
 
 pub illegal : (w : List ℕ) → sizeOf w ≡ Illegal → legal w ≡ false
 unfolding sizeOf

@@ -1,9 +1,9 @@
 -- A table and its run of words: each reads back as the other, and a store into a part is a store into the run.
 -- Assumes nothing.
 use mathlib.Core.Path.{_≡_, refl, sym, ap, ap₂, _∙_, subst}
-use mathlib.Core.Bool.{Bool, true, false, _&&_}
+use mathlib.Core.Bool.{true, _&&_}
 use mathlib.Core.List.{List, [], _∷_, _++_}
-use Prim.Native.Nat.{ℕ, zero, suc, _+_, _*_, _-_, _<_, _≤_}
+use Prim.Native.Nat.{ℕ, suc, _+_, _*_, _-_, _<_, _≤_}
 use native.Mathlib.Nat.{mul-le-mul-right, suc-mul, min-eq-left}
 use native.Mathlib.Omega.{arith}
 use lib.ListN.{length, take, drop, getD, set, length-take, length-drop, take-append-drop, drop-of-length-le}
@@ -11,7 +11,7 @@ use lib.Seq.{drop-drop, getD-take, getD-drop}
 use lib.Dec.{leb, eqb}
 use borrow.Author.Tests.{eq-eqb, le-leb, leb-true, eqb-true}
 use Rattle.promises.proofs.Decided.{both}
-use Rattle.rules.specs.Table.{_!_, Bare, Table, parts, joined, words, base, runLength, mostSeats, part, tableFor, tableOf, legal}
+use Rattle.rules.specs.Table.{_!_, Table, parts, joined, words, base, runLength, mostSeats, part, tableFor, tableOf, legal}
 use Rattle.rules.proofs.Parts.{All, none, more, set-joined, part-joined, All-set, length-joined, joined-with, All-with}
 
 -- a run of legal shape

@@ -4,7 +4,7 @@ use mathlib.Core.Path.{_≡_, refl, sym}
 use mathlib.Core.Bool.{true, _&&_}
 use mathlib.Core.List.{List, [], _∷_, _++_, map}
 use mathlib.Core.Logic.{_≢_}
-use Prim.Native.Nat.{ℕ, zero, suc, _<_, _≤_, _^_}
+use Prim.Native.Nat.{ℕ, zero, suc, _≤_, _^_}
 use native.Mathlib.Omega.{arith}
 use lib.Dec.{leb, ltb, eqb}
 use borrow.Author.Tests.{leb-true, ltb-true, eqb-true}
@@ -13,7 +13,7 @@ use Rattle.rules.specs.Table.{_!_, Table, mostSeats}
 use Rattle.rules.specs.Changes.{count, opened, takeOut}
 use Rattle.rules.specs.History.{Opens, Change, taking, seating, Accepted, done, then}
 use Rattle.rules.specs.Keys.{draw, walk, lookup}
-use Rattle.rules.specs.Examples.{Case, examples, h1, h2, h3, h8, Happens, AllHappen}
+use Rattle.rules.specs.Examples.{Case, examples, h1, h2, h3, h8, AllHappen}
 use Rattle.rules.proofs.Lists.{length-count, count-at, zeros-at}
 
 pub theorem : map (λ (c : Case). c .computed) examples ≡ map (λ (c : Case). c .document) examples

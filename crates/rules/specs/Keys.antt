@@ -6,7 +6,7 @@ use Prim.Native.Nat.{ℕ, zero, suc, _+_, _-_, _%_}
 use lib.ListN.{length, take, replicate}
 use lib.Dec.{eqb, ltb}
 use Rattle.splitmix.specs.Generator.{output}
-use Rattle.rules.specs.Table.{_!_, Bare, Table}
+use Rattle.rules.specs.Table.{_!_, Bare}
 use Rattle.rules.specs.Changes.{count, down, out, seat}
 use Rattle.rules.specs.History.{Change, taking, seating}
 

@@ -10,7 +10,7 @@ use native.Mathlib.Omega.{arith}
 use native.Mathlib.Decide.{ℕ-discrete, decLt}
 use native.Mathlib.Nat.{zero-add}
 use lib.ListN.{length, take}
-use lib.Seq.{ext-getD, getD-take, length-take-le, take-at}
+use lib.Seq.{ext-getD, getD-take, length-take-le}
 use Rattle.rules.specs.Table.{Bare, _!_}
 use Rattle.rules.specs.Changes.{out}
 use Rattle.sound.specs.Kept.{Order}
@@ -18,7 +18,7 @@ use Rattle.sound.specs.Form.{after, Takeable, Canonical}
 use Rattle.sound.specs.Test.{Owes, gone, stays, Cut, stood, moved, Test}
 use Rattle.rules.proofs.Lists.{differ, count-at, zeros-at}
 use Rattle.sound.proofs.Written.{Written, written}
-use Rattle.sound.proofs.Made.{Made, theorem, fewer-still, After, after-is, next-leaves, after-first}
+use Rattle.sound.proofs.Made.{fewer-still, After, after-is, next-leaves, after-first}
 use Rattle.sound.proofs.Passes.{made-passes}
 
 pub R-takeable : (F : Bare) → Test F → Takeable (F .seats) (F .R) (F .seats - F .used)

@@ -1,12 +1,11 @@
 -- What a table is that is made by taking the seats rs out, in order, of a full one; and that seating undoes the last.
 -- Assumes nothing.
 use mathlib.Core.Path.{_≡_, refl, sym, ap, ap₂, _∙_}
-use mathlib.Core.List.{List, [], _∷_, _++_}
+use mathlib.Core.List.{List, _++_}
 use mathlib.Core.Logic.{_≢_, inl, inr}
 use Prim.Native.Nat.{ℕ, zero, suc, _-_, _<_, _≤_}
 use native.Mathlib.Omega.{arith}
 use native.Mathlib.Decide.{ℕ-discrete, decLt}
-use native.Mathlib.Numerals.{add-one}
 use lib.ListN.{length, replicate, length-append, length-replicate, length-set, List·getD-append}
 use lib.Seq.{ext-getD}
 use Rattle.rules.specs.Table.{_!_, Bare}

@@ -13,7 +13,7 @@ use lib.ListN.{length, set, replicate}
 use lib.Seq.{getD-set-same, set-set, set-getD}
 use Rattle.rules.specs.Table.{_!_, Bare, Table, mostSeats}
 use Rattle.rules.specs.Changes.{opened, lastOut, takeOut, seatId}
-use Rattle.rules.specs.History.{Opens, Id, Change, taking, seating, Seats, Takes, Accepts, changed, run, Accepted, done, then, Reached}
+use Rattle.rules.specs.History.{Opens, Change, taking, seating, Seats, Takes, Accepts, changed, run, Accepted, done, then, Reached}
 use Rattle.rules.specs.Keys.{full}
 use Rattle.sound.specs.Kept.{Kept, Leaves}
 use Rattle.sound.specs.Form.{after, Ids, Form}

@@ -7,7 +7,7 @@ use Prim.Native.Nat.{ℕ, zero, suc, _-_, _<_, _≤_, _^_}
 use native.Mathlib.Omega.{arith}
 use native.Mathlib.Decide.{ℕ-discrete, decLe, decLt, map-dec}
 use lib.ListN.{length, getD}
-use Rattle.rules.specs.Table.{_!_, Bare, Table, parts, words, runLength, mostSeats, tableOf}
+use Rattle.rules.specs.Table.{_!_, Bare, Table, parts, runLength, mostSeats, tableOf}
 use Rattle.rules.specs.History.{Id, Reached, Sound}
 use Rattle.rules.proofs.Parts.{All, none, more}
 use Rattle.rules.proofs.Words.{Legal, words-tableOf, tableOf-words, length-words}

@@ -10,7 +10,7 @@ use borrow.Author.Tests.{ne-eqb}
 use Rattle.rules.specs.Answers.{numberOf, Answer, fine, refused, Outcome, Results}
 use Rattle.rules.specs.declared.Refusal.{Refusal}
 use Rattle.rules.proofs.Numbers.{numberOf-positive}
-use Rattle.steamacorn.specs.Exports.{values, Told, Changes}
+use Rattle.steamacorn.specs.Exports.{Told, Changes}
 
 pub tells-fine : (x : Answer) (vs before : List ℕ) → fine vs ≡ x → Told x before (0, vs)
 tells-fine x vs before e = rw (← e) (record { number = refl; values-out = refl })

@@ -1,6 +1,6 @@
 -- The promises of the exported functions leave one outcome each: the number, the lent values and the lent run or record.
 -- Assumes nothing.
-use mathlib.Core.Path.{_≡_, sym, _∙_}
+use mathlib.Core.Path.{sym, _∙_}
 use mathlib.Core.List.{List}
 use Prim.Native.Nat.{ℕ}
 use Rattle.promises.specs.One.{One}

@@ -1,5 +1,4 @@
 // What C and Rust link: each call answers its number, and its values go out through the last parameters.
-ghost use mathlib.Core.Path.{_≡_};
 ghost use mathlib.Core.List.{[], _∷_};
 ghost use Rattle.audit.specs.Audit.{auditCall};
 ghost use Rattle.changes.specs.Calls.{openCall, seatCall, outCall};

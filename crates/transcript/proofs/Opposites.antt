@@ -9,11 +9,11 @@ use native.Mathlib.Omega.{arith}
 use native.Mathlib.Decide.{decLt}
 use lib.Dec.{ltb, leb, eqb}
 use borrow.Author.Tests.{lt-ltb, le-ltb, le-leb, leb-true, eq-eqb, ne-eqb, eqb-true, eqb-false}
-use Rattle.lines.specs.Lines.{got, bad, isDigit, digits, zeroAlone, number, mostKey}
+use Rattle.lines.specs.Lines.{got, bad, isDigit, digits, zeroAlone, number}
 use Rattle.promises.proofs.Decided.{both}
 use Rattle.lines.proofs.Got.{not-got, got-value, got-rest, number-got}
 use Rattle.transcript.specs.Printing.{decimalIn, decimal}
-use Rattle.transcript.specs.Opposites.{Parted, Prints, Opposites}
+use Rattle.transcript.specs.Opposites.{Parted, Opposites}
 
 -- a digit more is read
 digit-read : (lim v k : ℕ) (tail : List ℕ) → k < 10 → v * 10 + k ≤ lim → digits lim v ((48 + k) ∷ tail) ≡ digits lim (v * 10 + k) tail

@@ -14,7 +14,7 @@ use Rattle.promises.specs.One.{One}
 use Rattle.rules.specs.Table.{_!_}
 use Rattle.rules.specs.Answers.{Answer, Outcome}
 use Rattle.lines.proofs.Digits.{byte}
-use Rattle.lines.specs.Lines.{joins, linesOf, commandOf}
+use Rattle.lines.specs.Lines.{linesOf, commandOf}
 use Rattle.transcript.specs.Printing.{printed}
 use Rattle.transcript.specs.Transcript.{respond, replies}
 use Rattle.transcript.specs.Replies.{replyAnswer, Put, tableIn, After, Ends, Written}

@@ -1,11 +1,10 @@
 // The program `seats` as a function on bytes: from its input to its output.
 ghost use mathlib.Core.Path.{_≡_};
-ghost use mathlib.Core.List.{[], _∷_, _++_};
+ghost use mathlib.Core.List.{[], _∷_};
 ghost use Prim.Native.Nat.{_+_, _*_, _≤_, _<_, max};
 ghost use lib.ListN.{length, replicate};
-ghost use lib.Seq.{sets};
 ghost use Rattle.io.specs.Counts.{Counts};
-ghost use Rattle.transcript.specs.Printing.{decimal, spaced, said, okWord, noWord, printed};
+ghost use Rattle.transcript.specs.Printing.{decimal, said, okWord, printed};
 ghost use Rattle.transcript.specs.Replies.{replyAnswer, Put, tableIn, After, Ends, Lent, Written};
 ghost use Rattle.transcript.specs.Transcript.{reopened, respond, replies, transcript};
 ghost use Rattle.lines.specs.Lines.{linesOf, commandOf};

@@ -2,7 +2,6 @@
 -- Assumes nothing.
 use native.Mathlib.Omega.{arith}
 use borrow.Author.Needs.{needs}
-use mathlib.Core.Path.{_∙_}
 use Rattle.sound.specs.Test.{stood}
 use Rattle.audit.proofs.Decisions.{moved-low, moved-under, removed-moved}
 use Rattle.audit.proofs.removed.Statement.{statement}

@@ -1,7 +1,7 @@
 -- `changes::take_out` meets its contract: it refuses as the audit does, or the table is sound.
 -- Assumes nothing.
 use borrow.Author.Needs.{needs}
-use mathlib.Core.Path.{_≡_, sym, ap, _∙_}
+use mathlib.Core.Path.{sym, ap, _∙_}
 use Rattle.audit.specs.Audit.{answerOf}
 use Rattle.audit.proofs.Told.{fine-sound}
 use Rattle.changes.proofs.Told.{out-refused}

@@ -3,12 +3,10 @@
 use native.Mathlib.Omega.{arith}
 use borrow.Author.Needs.{needs}
 use mathlib.Core.Path.{_≡_, refl, sym, ap, _∙_, subst}
-use mathlib.Core.List.{List}
-use Prim.Native.Nat.{ℕ, _≤_}
-use lib.ListN.{length, take}
+use Prim.Native.Nat.{_≤_}
+use lib.ListN.{length}
 use lib.Seq.{length-take-le}
-use Rattle.rules.specs.Answers.{Answer}
-use Rattle.lines.specs.Lines.{Command, commandOf}
+use Rattle.lines.specs.Lines.{commandOf}
 use Rattle.lines.proofs.Standing as standing
 use Rattle.lines.proofs.Standing.{lineOf, lineCount}
 use Rattle.lines.specs.declared.Line.{Line}

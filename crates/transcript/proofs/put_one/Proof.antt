@@ -2,9 +2,6 @@
 -- Assumes nothing.
 use native.Mathlib.Omega.{arith}
 use borrow.Author.Needs.{needs}
-use mathlib.Core.List.{[], _∷_}
-use mathlib.Core.Path.{_∙_}
-use Rattle.transcript.specs.Printing.{decimal}
 use Rattle.transcript.proofs.Stored.{put-then, put-length}
 use Rattle.transcript.proofs.Saying.{said-one, said-one-length}
 use Rattle.transcript.proofs.put_one.Statement.{statement}

@@ -8,7 +8,7 @@ use lib.ListN.{length, take, replicate, length-replicate}
 use lib.Seq.{length-take-le}
 use Rattle.rules.specs.Table.{runLength}
 use Rattle.rules.specs.Answers.{outcome}
-use Rattle.changes.specs.Calls.{openedAnswer, openCall}
+use Rattle.changes.specs.Calls.{openedAnswer}
 use Rattle.changes.specs.declared.Opened.{Opened}
 use Rattle.transcript.specs.Transcript.{reopened}
 use Rattle.transcript.specs.Replies.{tableIn}

@@ -3,9 +3,8 @@
 use native.Mathlib.Omega.{arith}
 use borrow.Author.Needs.{needs}
 use mathlib.Core.Path.{_≡_, refl, _∙_}
-use Prim.Native.Nat.{_≤_, _-_}
+use Prim.Native.Nat.{_-_}
 use lib.ListN.{length}
-use Rattle.rules.specs.Table.{runLength, mostSeats}
 use Rattle.transcript.proofs.Turns.{So, so-begins, line-length, fits, so-more, so-ends}
 use Rattle.transcript.proofs.run_lines.Statement.{statement}
 use Rattle.transcript.proofs.run_lines.Tie as tie

@@ -2,10 +2,9 @@
 -- Assumes nothing.
 use native.Mathlib.Omega.{arith}
 use borrow.Author.Needs.{needs}
-use mathlib.Core.Path.{_≡_, sym, ap, _∙_}
-use lib.ListN.{length, take}
+use mathlib.Core.Path.{_≡_, sym}
+use lib.ListN.{length}
 use lib.Seq.{length-take-le}
-use Rattle.rules.specs.Answers.{Outcome}
 use Rattle.transcript.proofs.Tables.{after-call}
 use Rattle.transcript.proofs.seat_in.Statement.{statement}
 use Rattle.transcript.proofs.seat_in.Tie as tie

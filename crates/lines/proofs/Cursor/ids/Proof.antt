@@ -4,7 +4,7 @@ use native.Mathlib.Omega.{arith}
 use borrow.Author.Needs.{needs}
 use mathlib.Core.Path.{_≡_, refl, sym, ap, _∙_}
 use mathlib.Core.Bool.{true, false}
-use Prim.Native.Nat.{ℕ, suc, _<_, _≤_, _+_, _-_, _*_}
+use Prim.Native.Nat.{ℕ, suc, _<_, _≤_, _+_, _-_}
 use lib.ListN.{length, take, drop, length-drop, length-set}
 use Rattle.lines.specs.Lines.{got, next, mostId, idsOf}
 use Rattle.lines.specs.Readings.{readOf}
