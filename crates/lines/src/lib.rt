@@ -5,6 +5,11 @@ ghost use lib.ListN.{length, drop};
 ghost use Rattle.lines.specs.Lines.{digits, number, next, last, mostId, idsOf, idsBehind, starts, withA, commandOf};
 ghost use Rattle.lines.specs.Readings.{afterWord, idsAfter, idsRead, readOf, idOf, Lists, IsLine};
 
+// The largest id, and a too; the largest key.
+const MOST_ID: u64 = 0xffff_ffff;
+
+const MOST_KEY: u64 = 0xffff_ffff_ffff_ffff;
+
 // A place in a line.
 pub struct Cursor {
     pub at: usize,
@@ -149,7 +154,7 @@ impl Cursor {
         let mut at = self.at;
         let mut n: usize = 0;
         while at < s.len() {
-            let Number::Value(id, c) = (Cursor { at }).next(s, 0xffff_ffff) else {
+            let Number::Value(id, c) = (Cursor { at }).next(s, MOST_ID) else {
                 return Listed::Broken;
             };
             into[n] = id as u32;
@@ -198,7 +203,7 @@ impl Cursor {
     fn last_id(self, s: &[u8]) -> Id
         ensures { λ r. ⌜ idOf r ≡ last (next mostId (drop (self .at) (now (s .entry)))) ⌝ }
     {
-        let Number::Value(id, _) = self.last_number(s, 0xffff_ffff) else {
+        let Number::Value(id, _) = self.last_number(s, MOST_ID) else {
             return Id::None;
         };
         Id::Is(id as u32)
@@ -209,7 +214,7 @@ fn open_line(c: Cursor, s: &[u8], into: &mut [u32]) -> Line
     requires { ⌜ length (now s) ≤ 2 * length (now into) ⌝ }
     ensures { λ r. ⌜ IsLine (withA (next mostId (drop (c .at) (now (s .entry))))) (idsBehind (next mostId (drop (c .at) (now (s .entry)))) .ids) (now (into .entry)) (r, now (into .exit)) ⌝ }
 {
-    let Number::Value(a, c) = c.next(s, 0xffff_ffff) else {
+    let Number::Value(a, c) = c.next(s, MOST_ID) else {
         return Line::Unknown;
     };
     let Listed::All(n) = c.ids(s, into) else {
@@ -241,7 +246,7 @@ pub fn command(s: &[u8], into: &mut [u32]) -> Line
             Line::Out(id)
         }
         Word::Find => {
-            let Number::Value(key, _) = c.last_number(s, 0xffff_ffff_ffff_ffff) else {
+            let Number::Value(key, _) = c.last_number(s, MOST_KEY) else {
                 return Line::Unknown;
             };
             Line::Find(key)

@@ -35,6 +35,9 @@ pub const MOST_IDS: usize = MOST_INPUT / 2;
 
 pub const MOST_OUTPUT: usize = 6 * MOST_INPUT;
 
+// The program does not know the line.
+const LINE: u32 = 11;
+
 // What a line is answered.
 pub enum Reply {
     One(u32),
@@ -111,7 +114,7 @@ fn put_reply(out: &mut [u8], at: usize, reply: Reply) -> usize
         Reply::One(v) => put_one(out, at, b"ok", v),
         Reply::Three(v, w, x) => put_three(out, at, v, w, x),
         Reply::No(why) => put_one(out, at, b"no", number(why)),
-        Reply::Unknown => put_one(out, at, b"no", 11),
+        Reply::Unknown => put_one(out, at, b"no", LINE),
     }
 }
 
