@@ -8,7 +8,7 @@ ghost use Rattle.audit.specs.Pass.{Counted, Stands, SeatPasses, Removed,
 ghost use Rattle.audit.specs.Audit.{answerOf, auditCall};
 use ids::repeats_in;
 use parts::Size;
-use parts::first_place;
+use parts::first_position;
 use parts::get_a;
 use parts::get_k;
 use parts::get_l;
@@ -69,7 +69,7 @@ fn seat_passes(t: &[u32], a: usize, n: usize, x: Seat) -> bool
         if get_k(t, a, x).0 != x.0 {
             return false;
         }
-        return owes(t, a, n, x, first_place(x));
+        return owes(t, a, n, x, first_position(x));
     }
     if id != 0 {
         return false;
@@ -83,7 +83,7 @@ fn seat_passes(t: &[u32], a: usize, n: usize, x: Seat) -> bool
     if get_r(t, a, a - 1 - left).0 != x.0 {
         return false;
     }
-    owes(t, a, n, x, first_place(x))
+    owes(t, a, n, x, first_position(x))
 }
 
 // Are the words right that the taking out of b, entry i of R, left?

@@ -43,7 +43,7 @@ can-seat T t room =
     let at : T .seats - 1 - i ≡ T .used = omega arith in
     let c : Cut T (T .used) (lastOut T) = rw at at (t .cut i (omega arith)) in
     let low = last-below T (lastOut T) c b in
-    record { room = room; seat = b; last = low; place = place-below T (lastOut T) c room (t .shape .lenL) low }
+    record { room = room; seat = b; last = low; position = place-below T (lastOut T) c room (t .shape .lenL) low }
 
 -- a seat in use stands in the line
 pub can-leave : {T : Bare} {b : ℕ} → Kept T → b < T .seats → T .A ! b ≡ 0 → CanTake T b
@@ -51,7 +51,7 @@ can-leave {T} {b} k below in-use =
     let s = k .seated b below in-use in
     let some = k .shape .some in
     let most = k .shape .most in
-    record { seat = below; some = some; most = most; place = omega arith; last = k .line (T .used - 1) (omega arith) .0 }
+    record { seat = below; some = some; most = most; position = omega arith; last = k .line (T .used - 1) (omega arith) .0 }
 
 module _ (w : List ℕ) (s : Sound w) where
   pub long : 1 < length w

@@ -16,11 +16,11 @@ pub record CanTake (T : Bare) (b : ℕ) : Type 0 where
   pub seat : b < T .seats
   pub some : 1 ≤ T .used
   pub most : T .used ≤ T .seats
-  pub place : T .L ! b < T .seats
+  pub position : T .L ! b < T .seats
   pub last : T .W ! (T .used - 1) < T .seats
 
 pub record CanSeat (T : Bare) : Type 0 where
   pub room : T .used < T .seats
   pub seat : lastOut T < T .seats
   pub last : T .W ! T .used < T .seats
-  pub place : set (T .L) (T .W ! T .used) (T .used) ! lastOut T < T .seats
+  pub position : set (T .L) (T .W ! T .used) (T .used) ! lastOut T < T .seats

@@ -52,13 +52,13 @@ pub fn take_out_seat(t: &mut [u32], a: usize, b: Seat)
     let was = t[1];
     let n = was - 1;
     let last = get_w(t, a, Position(n));
-    let place = get_l(t, a, b);
+    let position = get_l(t, a, b);
     set_r(t, a, a - was as usize, b);
     set_n(t, n);
     set_a(t, a, b, n);
     set_k(t, a, b, last);
-    set_w(t, a, place, last);
-    set_l(t, a, last, place);
+    set_w(t, a, position, last);
+    set_l(t, a, last, position);
     set_s(t, a, b, 0);
 }
 
@@ -75,8 +75,8 @@ fn seat_last(t: &mut [u32], a: usize, id: u32) -> Seat
     clear_r(t, a, entry);
     set_a(t, a, b, 0);
     set_l(t, a, last, Position(n));
-    let place = get_l(t, a, b);
-    set_w(t, a, place, b);
+    let position = get_l(t, a, b);
+    set_w(t, a, position, b);
     set_k(t, a, b, b);
     set_n(t, n + 1);
     set_s(t, a, b, id);

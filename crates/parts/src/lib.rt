@@ -100,7 +100,7 @@ fn put(t: &mut [u32], a: usize, k: usize, i: usize, v: u32)
 
 // Where a seat stands in the line of all a seats, and who stands at a position of it: b at b. Opening writes this
 // line, the audit starts from it, and a key's first draw falls on it.
-pub fn first_place(b: Seat) -> Position
+pub fn first_position(b: Seat) -> Position
     ensures { λ r. ⌜ IsPosition (b .0) r ⌝ }
 {
     Position(b.0)

@@ -36,14 +36,14 @@ abbrev pub out : Bare → ℕ → Bare
 out T b =
     let N = T .used - 1 in
     let last = T .W ! N in
-    let place = T .L ! b in
+    let position = T .L ! b in
     record {
       seats = T .seats;
       used = N;
       A = set (T .A) b N;
       K = set (T .K) b last;
-      W = set (T .W) place last;
-      L = set (T .L) last place;
+      W = set (T .W) position last;
+      L = set (T .L) last position;
       R = set (T .R) (T .seats - T .used) b;
     }
 

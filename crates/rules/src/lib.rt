@@ -5,7 +5,7 @@ ghost use Rattle.rules.specs.Answers.{numberOf};
 // The paper's bucket.
 pub struct Seat(pub u32);
 
-// A place in the working line. W and L are the only ways between the two, and for the line of all seats `parts::first_seat` and `first_place`.
+// A place in the working line. W and L are the only ways between the two, and for the line of all seats `parts::first_seat` and `first_position`.
 pub struct Position(pub u32);
 
 // Why a call refuses; `numberOf` gives each its number.
