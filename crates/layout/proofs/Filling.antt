@@ -10,7 +10,7 @@ use lib.Seq.{ext-getD, getD-set-same, getD-set-other}
 use borrow.Author.Tests.{lt-ltb, le-ltb}
 use Rattle.rules.specs.Table.{_!_}
 use Rattle.rules.specs.Changes.{count, down, openA, openR, openS}
-use Rattle.rules.proofs.Lists.{length-count, length-down, count-at, down-at, counted, zeros-at, padded}
+use Rattle.rules.proofs.Lists.{length-count, length-down, down-at, counted, zeros-at, padded}
 use Rattle.layout.specs.Layout.{firstA, firstR, firstS}
 
 -- l has the words of `whole` below i
@@ -64,6 +64,3 @@ module _ (a : ℕ) (ids : List ℕ) (fit : length ids ≤ a) where
     | yes l ↦ rw (lt-ltb i (length ids) l) (sym (List·getD-append ids (replicate (a - length ids) 0) 0 i l))
     | no l ↦ rw (le-ltb i (length ids) (omega arith)) (sym (padded ids (a - length ids) i (omega arith)))
   ]
-
-pub own-is : (a i : ℕ) → i < a → i ≡ count a 0 ! i
-own-is a i h = sym (count-at a 0 i h ∙ omega arith)

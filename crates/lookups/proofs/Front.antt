@@ -13,7 +13,7 @@ use Rattle.rules.specs.Keys.{at, full}
 use Rattle.sound.specs.Kept.{Kept, Leaves}
 use Rattle.sound.specs.Form.{after, Takeable}
 use Rattle.sound.specs.Test.{Test}
-use Rattle.rules.proofs.Lists.{count-at}
+use Rattle.rules.proofs.Lists.{own-at}
 use Rattle.sound.proofs.Written.{Written, written}
 use Rattle.sound.proofs.KeptOut.{kept-full, kept-out}
 use Rattle.sound.proofs.Made.{fewer-still, after-is, next-leaves}
@@ -33,7 +33,7 @@ stands {T} g q fuel h =
 
 front-full : (a : ℕ) → 1 ≤ a → Front (full a)
 front-full a h q fuel l m =
-    let own : full a .W ! q ≡ q = count-at a 0 q l ∙ omega arith in
+    let own : full a .W ! q ≡ q = own-at a q l in
     rw own (rw own at (stands (kept-full a h) q fuel l))
 
 module _ (T : Bare) (b : ℕ) (g : Kept T) (v : Leaves T b) (w : Written T b) where

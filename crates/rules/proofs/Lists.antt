@@ -21,6 +21,10 @@ count-at zero i j h = absurd (omega arith)
 count-at (suc n) i zero h = omega arith
 count-at (suc n) i (suc j) h = count-at n (suc i) j (omega arith) ∙ omega arith
 
+-- b at b
+pub own-at : (a b : ℕ) → b < a → count a 0 ! b ≡ b
+own-at a b h = count-at a 0 b h ∙ omega arith
+
 pub zeros-at : (n i : ℕ) → replicate n 0 ! i ≡ 0
 zeros-at zero i = refl
 zeros-at (suc n) zero = refl

@@ -10,7 +10,7 @@ use Rattle.rules.specs.Table.{Bare, _!_}
 use Rattle.rules.specs.Changes.{count, out}
 use Rattle.rules.specs.Keys.{full}
 use Rattle.sound.specs.Kept.{Kept, Order, Leaves}
-use Rattle.rules.proofs.Lists.{differ, length-count, count-at, zeros-at}
+use Rattle.rules.proofs.Lists.{differ, length-count, own-at, zeros-at}
 use Rattle.sound.proofs.Written.{Written, written}
 
 pub kept-full : (a : ℕ) → 1 ≤ a → Kept (full a)
@@ -18,12 +18,9 @@ kept-full a h =
     record {
       shape = record { some = h; most = omega arith; lenA = length-replicate a 0; lenK = length-count a 0; lenW = length-count a 0; lenL = length-count a 0; lenR = length-replicate a 0 };
       order = record { taken = λ i l. absurd (omega arith); rest = λ i l. zeros-at a i; each = λ x l. inl (zeros-at a x) };
-      seated = λ x l e. rw (c x l) (omega arith, omega arith, c x l);
-      line = λ q l. rw (c q l) (omega arith, zeros-at a q, c q l);
+      seated = λ x l e. rw (own-at a x l) (omega arith, omega arith, own-at a x l);
+      line = λ q l. rw (own-at a q l) (omega arith, zeros-at a q, own-at a q l);
     }
-  where
-    c : (x : ℕ) → x < a → count a 0 ! x ≡ x
-    c x l = count-at a 0 x l ∙ omega arith
 
 module _ (T : Bare) (b : ℕ) (g : Kept T) (v : Leaves T b) (w : Written T b) where
   abbrev T′ : Bare

@@ -12,7 +12,7 @@ use Rattle.rules.specs.Changes.{count, down, opened}
 use Rattle.rules.specs.History.{Opens}
 use Rattle.sound.specs.Form.{Ids}
 use Rattle.sound.specs.Test.{gone, stays, stood, Test}
-use Rattle.rules.proofs.Lists.{length-down, down-at, counted, zeros-at, length-count, count-at, padded}
+use Rattle.rules.proofs.Lists.{length-down, down-at, counted, zeros-at, length-count, own-at, padded}
 
 module _ (a : ℕ) (ids : List ℕ) (o : Opens a ids) where
   abbrev w : ℕ
@@ -36,9 +36,6 @@ module _ (a : ℕ) (ids : List ℕ) (o : Opens a ids) where
   R-in : (i : ℕ) → i < a - w → R ! i ≡ a - 1 - i
   R-in i h = List·getD-append (down (a - w) (a - 1)) (replicate w 0) 0 i (simp length-down h) ∙ down-at (a - w) (a - 1) i h
 
-  here : (x : ℕ) → x < a → count a 0 ! x ≡ x
-  here x h = count-at a 0 x h ∙ omega arith
-
   pub open-passes : Test (opened a ids .bare)
   unfolding opened
   open-passes =
@@ -60,13 +57,13 @@ module _ (a : ℕ) (ids : List ℕ) (o : Opens a ids) where
             | no l ↦ inr (rw (A-out x (omega arith) h) (omega arith, h, R-in (a - 1 - x) (omega arith) ∙ omega arith))
           ];
         };
-        ownK = λ x h e. here x h;
+        ownK = λ x h e. own-at a x h;
         lastK = λ i h. rw (R-in i h) refl;
         start = λ x h. elim (decLt x w) [
-          | yes l ↦ stays (rw (A-in x l) (omega arith)) (here x h) (λ m. here x h)
-          | no l ↦ gone (rw (A-out x (omega arith) h) (omega arith)) (here x h)
+          | yes l ↦ stays (rw (A-in x l) (omega arith)) (own-at a x h) (λ m. own-at a x h)
+          | no l ↦ gone (rw (A-out x (omega arith) h) (omega arith)) (own-at a x h)
         ];
-        cut = λ i h. rw (R-in i h) (stood (here (a - 1 - i) (omega arith)));
+        cut = λ i h. rw (R-in i h) (stood (own-at a (a - 1 - i) (omega arith)));
       }
 
   S-in : (x : ℕ) → x < w → S ! x ≡ ids ! x

@@ -12,7 +12,7 @@ use Rattle.rules.specs.Keys.{full}
 use Rattle.sound.specs.Kept.{Kept, Leaves}
 use Rattle.sound.specs.Form.{after, Takeable}
 use Rattle.sound.specs.Test.{Owes, gone, stays, Cut, stood, moved, Test}
-use Rattle.rules.proofs.Lists.{differ, count-at, zeros-at}
+use Rattle.rules.proofs.Lists.{differ, own-at, zeros-at}
 use Rattle.sound.proofs.Written.{Written, written}
 use Rattle.sound.proofs.KeptOut.{kept-full, kept-out}
 use Rattle.sound.proofs.Made.{fewer-still, after-is, next-leaves}
@@ -25,7 +25,7 @@ test-full a h =
       order = g .order;
       ownK = λ x l e. g .seated x l e .0;
       lastK = λ i l. absurd (omega arith);
-      start = λ x l. let c : count a 0 ! x ≡ x = count-at a 0 x l ∙ omega arith in stays (rw (zeros-at a x) (omega arith)) c (λ m. c);
+      start = λ x l. let c = own-at a x l in stays (rw (zeros-at a x) (omega arith)) c (λ m. c);
       cut = λ i l. absurd (omega arith);
     }
 

@@ -6,8 +6,8 @@ use mathlib.Core.Path.{_≡_, refl, sym}
 use Prim.Native.Nat.{_≤_, _-_}
 use lib.ListN.{length, length-set}
 use Rattle.rules.specs.Changes.{count}
-use Rattle.rules.proofs.Lists.{length-count}
-use Rattle.layout.proofs.Filling.{Filled, filled-none, filled-more, filled-all, own-is}
+use Rattle.rules.proofs.Lists.{length-count, own-at}
+use Rattle.layout.proofs.Filling.{Filled, filled-none, filled-more, filled-all}
 use Rattle.layout.proofs.fill_own.Statement.{statement}
 use Rattle.layout.proofs.fill_own.Tie as tie
 
@@ -24,7 +24,7 @@ loop-again : tie.Need-loop-again Inv-loop μ-loop
 loop-again c =
     let l = c .before in
     let s = c .before .before in
-    (simp length-set (omega arith), simp length-set (l .loop .inv .1), filled-more _ _ _ _ (omega arith) (own-is (length (s .args .part .now)) (l .loop .i) (omega arith)) (l .loop .inv .2))
+    (simp length-set (omega arith), simp length-set (l .loop .inv .1), filled-more _ _ _ _ (omega arith) (sym (own-at (length (s .args .part .now)) (l .loop .i) (omega arith))) (l .loop .inv .2))
 
 returns : tie.Need-returns Inv-loop μ-loop
 returns c = filled-all _ _ _ (omega arith) (c .before .loop .inv .2)
