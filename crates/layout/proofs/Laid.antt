@@ -5,7 +5,7 @@ use mathlib.Core.List.{List, [], _∷_, _++_}
 use Prim.Native.Nat.{ℕ, _+_, _-_, _≤_}
 use native.Mathlib.Omega.{arith}
 use lib.ListN.{length, take, drop, set, length-take, length-drop, length-set}
-use lib.Seq.{getD-set-same, drop-set-lt}
+use lib.Seq.{drop-drop, getD-set-same, drop-set-lt}
 use Rattle.rules.specs.Table.{Table, words, base, runLength, part}
 use Rattle.rules.specs.Changes.{count, opened, openA, openR, openS, openBare}
 use Rattle.rules.proofs.Lists.{length-count}
@@ -19,7 +19,8 @@ pub part-filled : (full : ℕ → List ℕ) (w new : List ℕ) (a k lo : ℕ) �
     → take lo w ++ (new ++ drop (lo + a - lo) (drop lo w)) ≡ withPart a k (full a) w
 part-filled full w new a k lo at h e =
     let long : length (take (lo + a - lo) (drop lo w)) ≡ a = simp (length-take, length-drop) (omega arith) in
-    rw (e, long, at) refl
+    let one : base a k + a - base a k ≡ a = omega arith in
+    rw (e, long, at, one, drop-drop) refl
 
 pub part-long : (w : List ℕ) (a k : ℕ) → base a k + a ≤ length w → length (part a k w) ≡ a
 part-long w a k h = simp (length-take, length-drop) (omega arith)

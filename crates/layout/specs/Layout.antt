@@ -17,4 +17,4 @@ firstS ids i = cond (ltb i (length ids)) (ids ! i) 0
 
 -- the run w with part k of a seats replaced
 abbrev pub withPart : ℕ → ℕ → List ℕ → List ℕ → List ℕ
-withPart a k new w = take (base a k) w ++ (new ++ drop (base a k + a - base a k) (drop (base a k) w))
+withPart a k new w = take (base a k) w ++ (new ++ drop (base a k + a) w)

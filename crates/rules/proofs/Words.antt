@@ -106,13 +106,12 @@ module _ {w w′ : List ℕ} {s u a : ℕ} {ps : List (List ℕ)} (h : Holds w s
         sized = All-set (h .sized) k i v;
       }
 
-  -- part k replaced, as a function that lends `&mut t[lo..lo + a]` finds it
+  -- part k replaced
   pub holds-with : (k : ℕ) (new : List ℕ) → k < length ps → length new ≡ a
-      → w′ ≡ take (base a k) w ++ (new ++ drop (base a k + a - base a k) (drop (base a k) w)) → Holds w′ s u a (set ps k new)
+      → w′ ≡ take (base a k) w ++ (new ++ drop (base a k + a) w) → Holds w′ s u a (set ps k new)
   holds-with k new hk long e =
-      let one : base a k + a - base a k ≡ a = omega arith in
       let two : base a k ≡ suc (suc (k * a)) = omega arith in
-      record { is = e ∙ rw (h .is, one, two) (ap (λ (l : List ℕ). s ∷ u ∷ l) (joined-with new (h .sized) k hk)); sized = All-with new long (h .sized) k }
+      record { is = e ∙ rw (← drop-drop a (base a k) w, h .is, two) (ap (λ (l : List ℕ). s ∷ u ∷ l) (joined-with new (h .sized) k hk)); sized = All-with new long (h .sized) k }
 
   -- a store of N
   pub holds-count : (n : ℕ) → w′ ≡ set w 1 n → Holds w′ s n a ps
