@@ -1,11 +1,11 @@
-// The fields of a record in lent bytes: a mark of two bytes, and a number of so many bytes, big-endian, written and read.
+// The records in lent bytes: where each stands, and its fields, a mark of two bytes and a number of so many bytes, big-endian, written and read.
 ghost use mathlib.Core.Path.{_≡_};
-ghost use Prim.Native.Nat.{_+_, _<_, _≤_};
+ghost use Prim.Native.Nat.{_+_, _<_, _≤_, _^_};
 ghost use lib.ListN.{length};
 ghost use lib.Seq.{sets};
 ghost use Rattle.promises.specs.Decides.{Decides};
 ghost use Rattle.saved.specs.Record.{bytes};
-ghost use Rattle.saved.specs.Reader.{numberAt, Stands};
+ghost use Rattle.saved.specs.Reader.{numberAt, Stands, outAt, inAt};
 
 // The bytes of a mark; of a, of N and of a seat; and of a server.
 pub const MARK: usize = 2;
@@ -29,6 +29,21 @@ pub const HEAD_MARK: [u8; 2] = *b"AS";
 pub const OUT_MARK: [u8; 2] = *b"OU";
 
 pub const IN_MARK: [u8; 2] = *b"IN";
+
+// Where the i-th removal's record stands, and after m removals the record of the j-th seat in use.
+pub fn out_at(i: usize) -> usize
+    requires { ⌜ outAt i < 2 ^ 64 ⌝ }
+    ensures { λ r. ⌜ r ≡ outAt i ⌝ }
+{
+    HEAD + OUT * i
+}
+
+pub fn in_at(m: usize, j: usize) -> usize
+    requires { ⌜ inAt m j < 2 ^ 64 ⌝ }
+    ensures { λ r. ⌜ r ≡ inAt m j ⌝ }
+{
+    HEAD + OUT * m + IN * j
+}
 
 pub fn put_mark(out: &mut [u8], at: usize, mark: &[u8; 2])
     requires { ⌜ (at + 2 ≤ length (now out)) × (length (now mark) ≡ 2) ⌝ }

@@ -6,7 +6,7 @@ use Prim.Native.Nat.{ℕ, _+_, _*_, _<_, _≤_}
 use lib.ListN.{length}
 use lib.Dec.{eqb}
 use Rattle.rules.specs.Table.{_!_, mostSeats}
-use Rattle.saved.specs.Reader.{seatsIn, usedIn, bareFrom}
+use Rattle.saved.specs.Reader.{outAt, seatsIn, usedIn, bareFrom}
 use Rattle.saved.specs.Fits.{HeadFits, OutFits, AllOut}
 use Rattle.form.specs.declared.Form.{Form}
 use Rattle.form.specs.declared.Form.the-variants.{Of, Bad}
@@ -24,7 +24,7 @@ pub record Noted (A flags : List ℕ) (a : ℕ) : Type 0 where
 pub record Leaving (s : List ℕ) (a m : ℕ) : Type 0 where
   pub fewer : m < a
   pub most : a ≤ mostSeats
-  pub long : 6 + 4 * m ≤ length s
+  pub long : outAt m ≤ length s
 
 -- removal i fits and is noted, or it does not fit; and so the first n of m
 abbrev pub OutTold : List ℕ → ℕ → ℕ → ℕ → Bool → List ℕ → Type 0

@@ -1,7 +1,7 @@
 // Whether bytes are a record, told by a read that never writes.
 ghost use mathlib.Core.Path.{_≡_};
 ghost use mathlib.Core.Logic.{_≢_};
-ghost use Prim.Native.Nat.{_+_, _*_, _-_, _<_, _≤_};
+ghost use Prim.Native.Nat.{_+_, _<_, _≤_};
 ghost use lib.ListN.{length, replicate};
 ghost use Rattle.rules.specs.Table.{mostSeats};
 ghost use Rattle.promises.specs.Decides.{Decides};
@@ -12,15 +12,15 @@ ghost use Rattle.form.specs.Tests.{HeadTold, Noted, Leaving, OutTold, Ou
 use fields::FIELD;
 use fields::HEAD;
 use fields::HEAD_MARK;
-use fields::IN;
 use fields::IN_MARK;
 use fields::MARK;
-use fields::OUT;
 use fields::OUT_MARK;
 use fields::SECOND;
 use fields::SERVER;
 use fields::has_mark;
+use fields::in_at;
 use fields::number_at;
+use fields::out_at;
 use parts::MOST_SEATS;
 
 // a and N of a record's table, or no record.
@@ -48,7 +48,7 @@ fn head_of(s: &[u8]) -> Form
         if a < n {
             return Form::Bad;
         }
-        if s.len() != HEAD + OUT * (a - n) + IN * n {
+        if s.len() != in_at(a - n, n) {
             return Form::Bad;
         }
         return Form::Of(a, n);
@@ -61,7 +61,7 @@ fn note_out(s: &[u8], a: usize, m: usize, i: usize, gone: &mut [u8]) -> bool
     requires { ⌜ (Leaving (now s) a m) × (i < m) × (Noted (bareFrom (now s) a m i .A) (now gone) a) ⌝ }
     ensures { λ r. ⌜ OutTold (now (s .entry)) a m i r (now (gone .exit)) ⌝ }
 {
-    let at = HEAD + OUT * i;
+    let at = out_at(i);
     if has_mark(s, at, &OUT_MARK) {
         let b = number_at(s, at + MARK, FIELD) as usize;
         if a <= b {
@@ -118,7 +118,7 @@ fn ins_fit(s: &[u8], a: usize, m: usize, gone: &[u8]) -> bool
     let mut b: usize = 0;
     while b < a {
         if gone[b] == 0 {
-            if in_fits(s, HEAD + OUT * m + IN * j, b) {
+            if in_fits(s, in_at(m, j), b) {
                 j += 1;
             } else {
                 return false;
@@ -134,7 +134,7 @@ pub fn server_at(s: &[u8], m: usize, j: usize) -> u32
     requires { ⌜ inAt m (j + 1) ≤ length (now s) ⌝ }
     ensures { λ r. ⌜ r ≡ serverAt (now (s .entry)) m j ⌝ }
 {
-    number_at(s, HEAD + OUT * m + IN * j + SECOND, SERVER)
+    number_at(s, in_at(m, j) + SECOND, SERVER)
 }
 
 // Four bytes as one number.
@@ -149,7 +149,7 @@ fn backward_at(s: &[u8], m: usize, j: usize) -> u32
     requires { ⌜ inAt m (j + 1) ≤ length (now s) ⌝ }
     ensures { λ r. ⌜ r ≡ backwardAt (now (s .entry)) (inAt m j + 4) ⌝ }
 {
-    let at = HEAD + OUT * m + IN * j + SECOND;
+    let at = in_at(m, j) + SECOND;
     joined(s[at + 3], s[at + 2], s[at + 1], s[at])
 }
 

@@ -3,7 +3,7 @@
 use mathlib.Core.Path.{_≡_, refl, sym, ap, ap₂, _∙_, subst}
 use mathlib.Core.Bool.{true}
 use mathlib.Core.List.{List, [], _∷_, _++_}
-use Prim.Native.Nat.{ℕ, _+_, _*_, _-_, _<_, _≤_}
+use Prim.Native.Nat.{ℕ, _*_, _-_, _<_, _≤_}
 use native.Mathlib.Nat.{zero-add}
 use native.Mathlib.Omega.{arith}
 use lib.ListN.{length, drop}
@@ -23,6 +23,7 @@ use Rattle.audit.specs.Audit.{auditCall}
 use Rattle.audit.proofs.Told.{refused-first}
 use Rattle.audit.proofs.Answers.{is-sound}
 use Rattle.saved.specs.Record.{field, headRecord, each, removalRecord, seatRecord, recordOf}
+use Rattle.saved.specs.Reader.{outAt, inAt}
 use Rattle.saved.specs.Length.{recordLength}
 use Rattle.saved.proofs.Ranks.{rank-all, length-seats}
 use Rattle.saved.proofs.Holds.{length-removals, length-recordOf}
@@ -71,8 +72,8 @@ module _ (w : List ℕ) (s : Sound w) where
 
   pub save-done : (out o₁ o₂ o₃ : List ℕ) → recordLength (w ! 0) (w ! 1) ≤ length out
       → o₁ ≡ sets out 0 (headRecord field (w ! 0) (w ! 1))
-      → o₂ ≡ sets o₁ 6 (each (removalRecord T) (w ! 0 - w ! 1))
-      → o₃ ≡ sets o₂ (6 + 4 * (w ! 0 - w ! 1)) (each (seatRecord T) (w ! 0))
+      → o₂ ≡ sets o₁ (outAt 0) (each (removalRecord T) (w ! 0 - w ! 1))
+      → o₃ ≡ sets o₂ (inAt (w ! 0 - w ! 1) 0) (each (seatRecord T) (w ! 0))
       → done (recordLength (w ! 0) (w ! 1) ∷ []) o₃ ≡ saveCall w out
   unfolding recordOf
   save-done out o₁ o₂ o₃ h e₁ e₂ e₃ =
@@ -81,8 +82,8 @@ module _ (w : List ℕ) (s : Sound w) where
       let outs = each (removalRecord T) m in
       let ins = each (seatRecord T) (w ! 0) in
       let size = length-recordOf T good in
-      let bodied : o₃ ≡ sets o₁ 6 (outs ++ ins) = put-then o₁ o₂ o₃ 6 (6 + 4 * m) outs ins (ap (λ (n : ℕ). 6 + n) (sym (length-removals T m))) e₂ e₃ in
-      let whole : o₃ ≡ sets out 0 (recordOf T) = put-then out o₁ o₃ 0 6 head (outs ++ ins) refl e₁ bodied in
+      let bodied : o₃ ≡ sets o₁ (outAt 0) (outs ++ ins) = put-then o₁ o₂ o₃ (outAt 0) (inAt m 0) outs ins (omega (arith, length-removals T m)) e₂ e₃ in
+      let whole : o₃ ≡ sets out 0 (recordOf T) = put-then out o₁ o₃ 0 (outAt 0) head (outs ++ ins) refl e₁ bodied in
       let written : o₃ ≡ recordOf T ++ drop (length (recordOf T)) out = whole ∙ sets-eq (recordOf T) out 0 (omega arith) ∙ ap (λ (n : ℕ). recordOf T ++ drop n out) (zero-add (length (recordOf T))) in
       ap₂ (λ (n : ℕ) (o : List ℕ). done (n ∷ []) o) (sym size) written
       ∙ save-is out (omega arith)

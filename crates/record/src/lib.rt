@@ -1,13 +1,13 @@
 // Saving a table as a record of bytes, and loading it.
 ghost use mathlib.Core.Path.{_≡_};
-ghost use Prim.Native.Nat.{_+_, _*_, _-_, _<_, _≤_};
+ghost use Prim.Native.Nat.{_+_, _-_, _<_, _≤_};
 ghost use lib.ListN.{length, set};
 ghost use lib.Seq.{sets};
 ghost use Rattle.rules.specs.Table.{words, tableFor, base};
 ghost use Rattle.rules.specs.History.{Sound};
 ghost use Rattle.parts.specs.Shape.{Shape};
 ghost use Rattle.rules.specs.Answers.{Results};
-ghost use Rattle.saved.specs.Reader.{rank, serverOf, tableFrom};
+ghost use Rattle.saved.specs.Reader.{rank, outAt, serverOf, tableFrom};
 ghost use Rattle.saved.specs.Record.{field, headRecord, outRecord, inRecord, each, seatRecord, removalRecord};
 ghost use Rattle.record.specs.Building.{Laid, Good, Next};
 ghost use Rattle.record.specs.Calls.{savedAnswer, saveCall, loadedAnswer, loadCall};
@@ -15,16 +15,16 @@ use audit::Audited;
 use audit::audit_table;
 use changes::take_out_seat;
 use fields::FIELD;
-use fields::HEAD;
 use fields::HEAD_MARK;
 use fields::IN;
 use fields::IN_MARK;
 use fields::MARK;
-use fields::OUT;
 use fields::OUT_MARK;
 use fields::SECOND;
 use fields::SERVER;
+use fields::in_at;
 use fields::number_at;
+use fields::out_at;
 use fields::put_mark;
 use fields::put_number;
 use form::Form;
@@ -53,7 +53,7 @@ pub enum Loaded {
 }
 
 fn put_head(out: &mut [u8], a: u32, n: u32)
-    requires { ⌜ 6 ≤ length (now out) ⌝ }
+    requires { ⌜ outAt 0 ≤ length (now out) ⌝ }
     ensures { λ _. ⌜ now (out .exit) ≡ sets (now (out .entry)) 0 (headRecord field a n) ⌝ }
 {
     put_mark(out, 0, &HEAD_MARK);
@@ -80,12 +80,12 @@ fn put_in(out: &mut [u8], at: usize, b: Seat, id: u32)
 
 // The first m entries of R, oldest first.
 fn put_outs(out: &mut [u8], t: &[u32], a: usize, m: usize)
-    requires { ⌜ (Shape (now t) a) × (m ≤ a) × (6 + 4 * m ≤ length (now out)) ⌝ }
-    ensures { λ _. ⌜ now (out .exit) ≡ sets (now (out .entry)) 6 (each (removalRecord (tableFor a (now (t .entry)))) m) ⌝ }
+    requires { ⌜ (Shape (now t) a) × (m ≤ a) × (outAt m ≤ length (now out)) ⌝ }
+    ensures { λ _. ⌜ now (out .exit) ≡ sets (now (out .entry)) (outAt 0) (each (removalRecord (tableFor a (now (t .entry)))) m) ⌝ }
 {
     let mut i: usize = 0;
     while i < m {
-        put_out(out, HEAD + OUT * i, get_r(t, a, i));
+        put_out(out, out_at(i), get_r(t, a, i));
         i += 1;
     }
 }
@@ -123,14 +123,14 @@ fn save_sound(t: &[u32], out: &mut [u8]) -> Saved
 {
     let a = t[0] as usize;
     let n = t[1] as usize;
-    let ins = HEAD + OUT * (a - n);
-    let len = ins + IN * n;
+    let m = a - n;
+    let len = in_at(m, n);
     if out.len() < len {
         return Saved::Refused(Refusal::Room);
     }
     put_head(out, t[0], t[1]);
-    put_outs(out, t, a, a - n);
-    put_ins(out, ins, t, a);
+    put_outs(out, t, a, m);
+    put_ins(out, in_at(m, 0), t, a);
     Saved::Bytes(len)
 }
 
@@ -152,7 +152,7 @@ fn take_all(t: &mut [u32], s: &[u8], a: usize, n: usize)
     let m = a - n;
     let mut i: usize = 0;
     while i < m {
-        let b = Seat(number_at(s, HEAD + OUT * i + MARK, FIELD));
+        let b = Seat(number_at(s, out_at(i) + MARK, FIELD));
         take_out_seat(t, a, b);
         i += 1;
     }

@@ -9,7 +9,7 @@ use Rattle.form.proofs.head_of.Tie as tie
 
 returns-6 : tie.Need-returns-6
 returns-6 c =
-    let n = c .before .before .before .before in
+    let n = c .before .before .before .before .before in
     let a = n .before in
     let marked = a .before in
     record {
@@ -38,10 +38,7 @@ head-of-spec =
     (λ c. search needs)
     (λ c. search needs)
     (λ c. search needs)
-    (λ c. search needs)
-    (λ c. search needs)
-    (λ c. search needs)
-    (λ c. search needs)
+    (λ c κs. search needs)
     (λ c. search needs)
     returns-6
     returns-7)

@@ -32,11 +32,12 @@ room c =
 returns : tie.Need-returns Inv-loop μ-loop
 returns c =
     let t = c .before in
-    let u = t .before in
+    let at = t .before in
+    let u = at .before in
     let l = u .before .before .before in
     let s = l .before .before .before in
     λ all. decides-false _ (c .if2 .left) (t .in-fits .ensures)
-    (rw (← l .loop .inv .1) at (all (l .loop .b) (omega arith) (u .if1 .taken)))
+    (rw (← l .loop .inv .1, ← at .in-at .ensures) at (all (l .loop .b) (omega arith) (u .if1 .taken)))
 
 loop-again : tie.Need-loop-again Inv-loop μ-loop
 loop-again c =
@@ -48,8 +49,8 @@ loop-again c =
     ⊎-elim
     (λ w.
     let u : rank gone (b + 1) ≡ rank gone b + 1 = ap (rank gone) (add-one b) ∙ rank-used gone b (w .0 .taken) ∙ sym (add-one (rank gone b)) in
-    let fits : P b = λ z. rw (l .loop .inv .1) at (decides-true _ (w .2 .taken) (w .1 .ensures)) in
-    (search needs, omega (arith, w .3), below-more P b (l .loop .inv .2) fits))
+    let fits : P b = λ z. rw (w .1 .ensures, l .loop .inv .1) at (decides-true _ (w .3 .taken) (w .2 .ensures)) in
+    (search needs, omega (arith, w .4), below-more P b (l .loop .inv .2) fits))
     (λ w.
     let u : rank gone (b + 1) ≡ rank gone b = ap (rank gone) (add-one b) ∙ rank-out gone b (w .0 .left) in
     (search needs, omega (arith, w .1), below-more P b (l .loop .inv .2) (λ z. absurd (w .0 .left z))))
@@ -69,12 +70,9 @@ ins-fit-spec =
     μ-loop
     (λ c. (search needs, refl, λ b h. absurd (omega arith)))
     (λ c. search needs)
-    (λ c. omega (arith, room c))
-    (λ c. omega (arith, room c))
-    (λ c. omega (arith, room c))
-    (λ c. omega (arith, room c))
-    (λ c κs. room c)
-    (λ c. omega (arith, room (c .before .before)))
+    (λ c κs. omega (arith, room c))
+    (λ c κs. omega (arith, room (c .before)))
+    (λ c. omega (arith, room (c .before .before .before)))
     returns
     (λ c. search needs)
     (λ c. search needs)

@@ -14,38 +14,41 @@ use Rattle.form.proofs.note_out.Tie as tie
 returns : tie.Need-returns
 returns c =
     let b = c .before in
-    let s = c .before .before .before .before .before .before .before in
-    λ f. omega (arith, b .number-at .ensures, leaves-below (s .args .s .now) (s .args .a) (s .args .m) (s .pre .0) (s .args .i) (s .pre .1) (f .leaves))
+    let o = b .before .before .before .before in
+    let s = o .before .before .before in
+    λ f. omega (arith, rw (o .out-at .ensures) at (b .number-at .ensures), leaves-below (s .args .s .now) (s .args .a) (s .args .m) (s .pre .0) (s .args .i) (s .pre .1) (f .leaves))
 
 returns-2 : tie.Need-returns-2
 returns-2 c =
     let b = c .before .before .before in
-    let s = c .before .before .before .before .before .before .before .before .before in
+    let o = b .before .before .before .before in
+    let s = o .before .before .before in
     λ f. noted-out (s .pre .2) (b .number-at .result) (omega arith) (c .if3 .taken)
-    (ap (λ (x : ℕ). bareFrom (s .args .s .now) (s .args .a) (s .args .m) (s .args .i) .A ! x) (b .number-at .ensures) ∙ f .leaves .inUse)
+    (ap (λ (x : ℕ). bareFrom (s .args .s .now) (s .args .a) (s .args .m) (s .args .i) .A ! x) (rw (o .out-at .ensures) at (b .number-at .ensures)) ∙ f .leaves .inUse)
 
 returns-3 : tie.Need-returns-3
 returns-3 c =
     let b = c .before .before .before in
     let marked = b .before in
-    let s = c .before .before .before .before .before .before .before .before .before in
+    let o = marked .before .before .before in
+    let s = o .before .before .before in
+    let named = rw (o .out-at .ensures) at (b .number-at .ensures) in
     let low = noted-used (s .pre .2) (b .number-at .result) (omega arith) (c .if3 .left) in (
       record {
-        mark = decides-true _ (marked .if1 .taken) (marked .before .has-mark .ensures);
-        leaves = leaves-next (s .args .s .now) (s .args .a) (s .args .m) (s .pre .0) (s .args .i) (s .pre .1) (b .number-at .result) (b .number-at .ensures) (omega arith) low;
+        mark = rw (← o .out-at .ensures) (decides-true _ (marked .if1 .taken) (marked .before .has-mark .ensures));
+        leaves = leaves-next (s .args .s .now) (s .args .a) (s .args .m) (s .pre .0) (s .args .i) (s .pre .1) (b .number-at .result) named (omega arith) low;
       },
-      noted-more (s .args .s .now) (s .args .a) (s .args .m) (s .pre .0) (s .args .i) (s .pre .1) (s .args .gone .now) (b .number-at .result) (b .number-at .ensures) (omega arith) (s .pre .2),
+      noted-more (s .args .s .now) (s .args .a) (s .args .m) (s .pre .0) (s .args .i) (s .pre .1) (s .args .gone .now) (b .number-at .result) named (omega arith) (s .pre .2),
     )
 
 returns-4 : tie.Need-returns-4
-returns-4 c = λ f. decides-false _ (c .if1 .left) (c .before .has-mark .ensures) (f .mark)
+returns-4 c = λ f. decides-false _ (c .if1 .left) (c .before .has-mark .ensures) (rw (← c .before .before .before .out-at .ensures) at (f .mark))
 
 pub note-out-spec : {M : Type 1} → statement M
 note-out-spec =
     tie.close
     (tie.spec
-    (λ c. search needs)
-    (λ c. search needs)
+    (λ c κs. search needs)
     (λ c κs. search needs)
     (λ c. search needs)
     (λ c κs. search needs)

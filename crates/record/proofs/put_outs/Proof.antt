@@ -2,19 +2,20 @@
 -- Assumes nothing.
 use native.Mathlib.Omega.{arith}
 use borrow.Author.Needs.{needs}
-use mathlib.Core.Path.{_≡_, refl, sym, ap, _∙_}
-use Prim.Native.Nat.{ℕ, _+_, _*_, _-_, _≤_}
+use mathlib.Core.Path.{_≡_, refl}
+use Prim.Native.Nat.{_-_, _≤_}
 use lib.ListN.{length}
 use lib.Seq.{sets}
 use Rattle.rules.specs.Table.{tableFor}
-use Rattle.saved.specs.Record.{field, outRecord, each, removalRecord}
+use Rattle.saved.specs.Record.{each, removalRecord}
+use Rattle.saved.specs.Reader.{outAt}
 use Rattle.saved.proofs.Holds.{length-removals}
 use Rattle.record.proofs.Putting.{put-next}
 use Rattle.record.proofs.put_outs.Statement.{statement}
 use Rattle.record.proofs.put_outs.Tie as tie
 
 abbrev Inv-loop : tie.InvT-loop
-Inv-loop out₀ t a m i₀ out i = (i ≤ m) × (length out ≡ length out₀) × (out ≡ sets out₀ 6 (each (removalRecord (tableFor a t)) i))
+Inv-loop out₀ t a m i₀ out i = (i ≤ m) × (length out ≡ length out₀) × (out ≡ sets out₀ (outAt 0) (each (removalRecord (tableFor a t)) i))
 
 abbrev μ-loop : tie.MeasureT-loop
 μ-loop out₀ t a m i₀ out i = m - i
@@ -23,11 +24,10 @@ loop-again : tie.Need-loop-again Inv-loop μ-loop
 loop-again c =
     let p = c .before .before in
     let r = p .before in
-    let l = c .before .before .before .before .before .before in
+    let l = r .before .before .before .before in
     let s = l .before .before .before in
     let T = tableFor (s .args .a) (s .args .t .now) in
-    let put : p .put-out .last .0 ≡ sets (l .loop .out) (6 + 4 * l .loop .i) (removalRecord T (l .loop .i)) = p .put-out .ensures ∙ ap (λ (b : ℕ). sets (l .loop .out) (6 + 4 * l .loop .i) (outRecord field b)) (r .get-r .ensures) in
-    (search needs, search needs, put-next (s .args .out .now) (l .loop .out) (p .put-out .last .0) 6 (6 + 4 * l .loop .i) (removalRecord T) (l .loop .i) (ap (λ (n : ℕ). 6 + n) (sym (length-removals T (l .loop .i)))) (l .loop .inv .2) put)
+    (search needs, search needs, put-next (s .args .out .now) (l .loop .out) (p .put-out .last .0) (outAt 0) (r .before .out-at .result) (removalRecord T) (l .loop .i) (omega (arith, length-removals T (l .loop .i))) (l .loop .inv .2) (rw (r .get-r .ensures) at (p .put-out .ensures)))
 
 returns : tie.Need-returns Inv-loop μ-loop
 returns c =
@@ -42,8 +42,7 @@ put-outs-spec =
     Inv-loop
     μ-loop
     (λ c. (search needs, refl, refl))
-    (λ c. search needs)
-    (λ c. search needs)
+    (λ c κs. search needs)
     (λ c κs. search needs)
     (λ c κs. search needs)
     (λ c. search needs)

@@ -19,21 +19,21 @@ abbrev μ-loop : tie.MeasureT-loop
 take-out-seat-requires : tie.Need-take-out-seat-requires Inv-loop μ-loop
 take-out-seat-requires c κs =
     let b = c .before in
-    let l = b .before .before in
+    let l = b .before .before .before in
     let s = l .before .before .before in
     let i = l .loop .i in
     let g = s .pre .0 in (
       laid-leads (s .args .s .now) (s .args .a) (s .args .n) g i (omega arith) (l .loop .t) (l .loop .inv .2),
-      can (s .args .s .now) (s .args .a) (s .args .n) g i (omega arith) (l .loop .t) (l .loop .inv .2) (b .number-at .result) (b .number-at .ensures),
+      can (s .args .s .now) (s .args .a) (s .args .n) g i (omega arith) (l .loop .t) (l .loop .inv .2) (b .number-at .result) (rw (b .before .out-at .ensures) at (b .number-at .ensures)),
     )
 
 loop-again : tie.Need-loop-again Inv-loop μ-loop
 loop-again c =
     let o = c .before .before in
     let b = o .before .before in
-    let l = b .before .before in
+    let l = b .before .before .before in
     let s = l .before .before .before in
-    (search needs, search needs, laid-next (s .args .s .now) (s .args .a) (s .args .n) (s .pre .0) (l .loop .i) (omega arith) (l .loop .t) (l .loop .inv .2) (o .take-out-seat .last .0) (b .number-at .result) (b .number-at .ensures) (o .take-out-seat .ensures))
+    (search needs, search needs, laid-next (s .args .s .now) (s .args .a) (s .args .n) (s .pre .0) (l .loop .i) (omega arith) (l .loop .t) (l .loop .inv .2) (o .take-out-seat .last .0) (b .number-at .result) (rw (b .before .out-at .ensures) at (b .number-at .ensures)) (o .take-out-seat .ensures))
 
 returns : tie.Need-returns Inv-loop μ-loop
 returns c =
@@ -50,8 +50,7 @@ take-all-spec =
     μ-loop
     (λ c. search needs)
     (λ c. (search needs, refl, c .before .before .pre .1))
-    (λ c. search needs)
-    (λ c. search needs)
+    (λ c κs. search needs)
     (λ c. search needs)
     (λ c κs. search needs)
     take-out-seat-requires
