@@ -21,7 +21,7 @@ use fields::has_mark;
 use fields::in_at;
 use fields::number_at;
 use fields::out_at;
-use parts::MOST_SEATS;
+use rules::MOST_SEATS;
 
 // a and N of a record's table, or no record.
 pub enum Form {

@@ -4,10 +4,9 @@ ghost use Prim.Native.Nat.{_+_, _<_, _≤_, _^_};
 ghost use lib.ListN.{length, set};
 ghost use Rattle.rules.specs.Table.{_!_, base, part, tableFor};
 ghost use Rattle.parts.specs.Shape.{sizeOf, Shape, Lent, Lends, IsSeat, IsPosition};
+use rules::MOST_SEATS;
 use rules::Position;
 use rules::Seat;
-
-pub const MOST_SEATS: usize = 2048;
 
 // The number of each part, in its order.
 pub const A: usize = 0;

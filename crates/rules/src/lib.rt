@@ -2,6 +2,8 @@
 ghost use mathlib.Core.Path.{_≡_};
 ghost use Rattle.rules.specs.Answers.{numberOf};
 
+pub const MOST_SEATS: usize = 2048;
+
 // The paper's bucket.
 pub struct Seat(pub u32);
 

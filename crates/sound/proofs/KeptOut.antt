@@ -7,7 +7,7 @@ use native.Mathlib.Omega.{arith}
 use native.Mathlib.Decide.{ℕ-discrete}
 use lib.ListN.{length-set, length-replicate}
 use Rattle.rules.specs.Table.{Bare, _!_}
-use Rattle.rules.specs.Changes.{count, out}
+use Rattle.rules.specs.Changes.{out}
 use Rattle.rules.specs.Keys.{full}
 use Rattle.sound.specs.Kept.{Kept, Order, Leaves}
 use Rattle.rules.proofs.Lists.{differ, length-count, own-at, zeros-at}

@@ -7,7 +7,7 @@ use Prim.Native.Nat.{ℕ, zero, suc, _-_, _≤_}
 use native.Mathlib.Omega.{arith}
 use native.Mathlib.Decide.{ℕ-discrete, decLt}
 use Rattle.rules.specs.Table.{Bare, _!_}
-use Rattle.rules.specs.Changes.{count, out}
+use Rattle.rules.specs.Changes.{out}
 use Rattle.rules.specs.Keys.{full}
 use Rattle.sound.specs.Kept.{Kept, Leaves}
 use Rattle.sound.specs.Form.{after, Takeable}

@@ -21,10 +21,10 @@ use find::Lookup;
 use find::find_server;
 use lines::Line;
 use lines::command;
-use parts::MOST_SEATS;
 use parts::MOST_WORDS;
 use parts::PARTS;
 use parts::start;
+use rules::MOST_SEATS;
 use rules::Refusal;
 use rules::number;
 
