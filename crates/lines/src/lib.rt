@@ -11,8 +11,8 @@ const MOST_ID: u64 = 0xffff_ffff;
 const MOST_KEY: u64 = 0xffff_ffff_ffff_ffff;
 
 // A place in a line.
-pub struct Cursor {
-    pub at: usize,
+struct Cursor {
+    at: usize,
 }
 
 // The words that a line can begin with.
@@ -30,7 +30,7 @@ enum First {
 }
 
 // A number, and the cursor behind it.
-pub enum Number {
+enum Number {
     Value(u64, Cursor),
     Bad,
 }
@@ -42,7 +42,7 @@ enum Id {
 }
 
 // How many ids stand to the line's end.
-pub enum Listed {
+enum Listed {
     All(usize),
     Broken,
 }

@@ -39,7 +39,7 @@ pub const MOST_OUTPUT: usize = 6 * MOST_INPUT;
 const LINE: u32 = 11;
 
 // What a line is answered.
-pub enum Reply {
+enum Reply {
     One(u32),
     Three(u32, u32, u32),
     No(Refusal),
