@@ -1,6 +1,6 @@
 -- A part that is filled word by word; and what each part of an opening has at each place.
 -- Assumes nothing.
-use mathlib.Core.Path.{_≡_, sym, _∙_}
+use mathlib.Core.Path.{_≡_, refl, sym, _∙_}
 use mathlib.Core.List.{List}
 use Prim.Native.Nat.{ℕ, _+_, _-_, _<_, _≤_}
 use native.Mathlib.Omega.{arith}
@@ -33,6 +33,21 @@ filled-more whole l i v h e f =
 
 pub filled-all : (whole l : List ℕ) (i : ℕ) → length l ≤ i → Filled whole l i → l ≡ whole
 filled-all whole l i h f = ext-getD 0 l whole (f .size) (λ k m. f .same k (omega arith))
+
+-- in a loop that began with the part l₀
+pub record Filling (whole l₀ l : List ℕ) (i : ℕ) : Type 0 where
+  pub within : i ≤ length l
+  pub kept : length l ≡ length l₀
+  pub filled : Filled whole l i
+
+pub filling-begins : (whole l : List ℕ) → length whole ≡ length l → Filling whole l l 0
+filling-begins whole l e = record { within = omega arith; kept = refl; filled = filled-none whole l (sym e) }
+
+pub filling-more : {whole l₀ l : List ℕ} {i v : ℕ} → i < length l → v ≡ whole ! i → Filling whole l₀ l i → Filling whole l₀ (set l i v) (i + 1)
+filling-more {l = l} {i = i} {v = v} h e f = record { within = simp length-set (omega arith); kept = length-set l i v ∙ f .kept; filled = filled-more _ l i v h e (f .filled) }
+
+pub filling-ends : {whole l₀ l : List ℕ} {i : ℕ} → length l ≤ i → Filling whole l₀ l i → l ≡ whole
+filling-ends h f = filled-all _ _ _ h (f .filled)
 
 module _ (a w : ℕ) (fit : w ≤ a) where
   pub length-openA : length (openA a w) ≡ a
