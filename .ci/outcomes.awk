@@ -25,10 +25,14 @@ function outcome(signature,    rest, name) {
     }
 }
 
-# does it name all of the outcome; does it name any
-function all(said,    i) {
-    for (i = 1; i <= count; i++) if (!index(" " said " ", parts[i])) return 0
-    return count > 0
+# is it all of the outcome, each part once and as it is; does it name any
+function all(said,    i, at) {
+    for (i = 1; i <= count; i++) {
+        if (!(at = index(said, parts[i]))) return 0
+        said = substr(said, 1, at - 1) substr(said, at + length(parts[i]))
+    }
+    gsub(/∷/, "", said)
+    return count > 0 && said ~ /^[][ (),]*$/
 }
 function any(said) {
     return index(said, ".exit") || said ~ /(^|[^A-Za-z_.])r([^A-Za-z_]|$)/

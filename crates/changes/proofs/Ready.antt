@@ -25,9 +25,9 @@ last-below : (T : Bare) (b : ℕ) → Cut T (T .used) b → b < T .seats → T .
 last-below T b (stood e) h = rw e h
 last-below T b (moved low under o) h = low
 
-place-below : (T : Bare) (b : ℕ) → Cut T (T .used) b → T .used < T .seats → length (T .L) ≡ T .seats → T .W ! T .used < T .seats
+position-below : (T : Bare) (b : ℕ) → Cut T (T .used) b → T .used < T .seats → length (T .L) ≡ T .seats → T .W ! T .used < T .seats
     → set (T .L) (T .W ! T .used) (T .used) ! b < T .seats
-place-below T b c room size low = elim (ℕ-discrete b (T .W ! T .used)) [
+position-below T b c room size low = elim (ℕ-discrete b (T .W ! T .used)) [
   | yes e ↦ rw e (rw (getD-set-same (T .L) (T .W ! T .used) (T .used) 0 (omega arith)) room)
   | no ne ↦ rw (getD-set-other (T .L) (T .W ! T .used) b (T .used) 0 ne) (under c ne)
 ]
@@ -43,7 +43,7 @@ can-seat T t room =
     let at : T .seats - 1 - i ≡ T .used = omega arith in
     let c : Cut T (T .used) (lastOut T) = rw at at (t .cut i (omega arith)) in
     let low = last-below T (lastOut T) c b in
-    record { room = room; seat = b; last = low; position = place-below T (lastOut T) c room (t .shape .lenL) low }
+    record { room = room; seat = b; last = low; position = position-below T (lastOut T) c room (t .shape .lenL) low }
 
 -- a seat in use stands in the line
 pub can-leave : {T : Bare} {b : ℕ} → Kept T → b < T .seats → T .A ! b ≡ 0 → CanTake T b

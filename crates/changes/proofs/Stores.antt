@@ -17,14 +17,14 @@ module _ (w : List ℕ) (a : ℕ) (l : Leads w a) where
   start : Holds w a (w ! 1) a (parts T)
   start = holds-table w a (l .first) (l .shape .size)
 
-  module _ (b last place : ℕ) (can : CanTake (T .bare) b) (is-last : last ≡ T .bare .W ! (w ! 1 - 1)) (is-place : place ≡ T .bare .L ! b) where
+  module _ (b last position : ℕ) (can : CanTake (T .bare) b) (is-last : last ≡ T .bare .W ! (w ! 1 - 1)) (is-position : position ≡ T .bare .L ! b) where
     pub taken-out : (w₁ w₂ w₃ w₄ w₅ w₆ w₇ : List ℕ) → let n = w ! 1 - 1 in
         w₁ ≡ set w (base a 4 + (a - w ! 1)) b
         → w₂ ≡ set w₁ 1 n
         → w₃ ≡ set w₂ (base a 0 + b) n
         → w₄ ≡ set w₃ (base a 1 + b) last
-        → w₅ ≡ set w₄ (base a 2 + place) last
-        → w₆ ≡ set w₅ (base a 3 + last) place
+        → w₅ ≡ set w₄ (base a 2 + position) last
+        → w₆ ≡ set w₅ (base a 3 + last) position
         → w₇ ≡ set w₆ (base a 5 + b) 0
         → w₇ ≡ words (takeOut T b)
     taken-out w₁ w₂ w₃ w₄ w₅ w₆ w₇ e₁ e₂ e₃ e₄ e₅ e₆ e₇ =
@@ -33,12 +33,12 @@ module _ (w : List ℕ) (a : ℕ) (l : Leads w a) where
         let h₂ = holds-count h₁ n e₂ in
         let h₃ = holds-put h₂ 0 b n (omega arith) (omega arith) e₃ in
         let h₄ = holds-put h₃ 1 b last (omega arith) (omega arith) e₄ in
-        let h₅ = holds-put h₄ 2 place last (omega arith) (omega arith) e₅ in
-        let h₆ = holds-put h₅ 3 last place (omega arith) (omega arith) e₆ in
+        let h₅ = holds-put h₄ 2 position last (omega arith) (omega arith) e₅ in
+        let h₆ = holds-put h₅ 3 last position (omega arith) (omega arith) e₆ in
         let h₇ = holds-put h₆ 5 b 0 (omega arith) (omega arith) e₇ in
-        h₇ .is ∙ rw (is-last, is-place) refl
+        h₇ .is ∙ rw (is-last, is-position) refl
 
-  module _ (id b last place : ℕ) (can : CanSeat (T .bare)) (is-b : b ≡ lastOut (T .bare)) (is-last : last ≡ T .bare .W ! (w ! 1)) where
+  module _ (id b last position : ℕ) (can : CanSeat (T .bare)) (is-b : b ≡ lastOut (T .bare)) (is-last : last ≡ T .bare .W ! (w ! 1)) where
     abbrev ps₃ : List (List ℕ)
     ps₃ = set (T .bare .A) b 0 ∷ T .bare .K ∷ T .bare .W ∷ set (T .bare .L) last (w ! 1) ∷ set (T .bare .R) (a - w ! 1 - 1) 0 ∷ T .S ∷ []
 
@@ -49,19 +49,19 @@ module _ (w : List ℕ) (a : ℕ) (l : Leads w a) where
           let h₂ = holds-put h₁ 0 b 0 (omega arith) (omega arith) e₂ in
           holds-put h₂ 3 last (w ! 1) (omega arith) (omega arith) e₃
 
-      -- the place is read after L has its word back
-      pub place-read : place ≡ part a 3 w₃ ! b → place ≡ set (T .bare .L) (T .bare .W ! (w ! 1)) (w ! 1) ! lastOut (T .bare)
-      place-read e = e ∙ ap (λ (x : List ℕ). x ! b) (holds-part h₃ 3 (omega arith)) ∙ rw (is-b, is-last) refl
+      -- the position is read after L has its word back
+      pub position-read : position ≡ part a 3 w₃ ! b → position ≡ set (T .bare .L) (T .bare .W ! (w ! 1)) (w ! 1) ! lastOut (T .bare)
+      position-read e = e ∙ ap (λ (x : List ℕ). x ! b) (holds-part h₃ 3 (omega arith)) ∙ rw (is-b, is-last) refl
 
-      pub seated : (w₄ w₅ w₆ w₇ : List ℕ) → place ≡ part a 3 w₃ ! b
-          → w₄ ≡ set w₃ (base a 2 + place) b
+      pub seated : (w₄ w₅ w₆ w₇ : List ℕ) → position ≡ part a 3 w₃ ! b
+          → w₄ ≡ set w₃ (base a 2 + position) b
           → w₅ ≡ set w₄ (base a 1 + b) b
           → w₆ ≡ set w₅ 1 (w ! 1 + 1)
           → w₇ ≡ set w₆ (base a 5 + b) id
           → w₇ ≡ words (seatId T id)
       seated w₄ w₅ w₆ w₇ e e₄ e₅ e₆ e₇ =
-          let p = place-read e in
-          let h₄ = holds-put h₃ 2 place b (omega arith) (omega arith) e₄ in
+          let p = position-read e in
+          let h₄ = holds-put h₃ 2 position b (omega arith) (omega arith) e₄ in
           let h₅ = holds-put h₄ 1 b b (omega arith) (omega arith) e₅ in
           let h₆ = holds-count h₅ (w ! 1 + 1) e₆ in
           let h₇ = holds-put h₆ 5 b id (omega arith) (omega arith) e₇ in

@@ -3,7 +3,7 @@
 use mathlib.Core.Path.{refl}
 use Rattle.promises.specs.One.{One}
 use Rattle.rules.specs.Answers.{Outcome, Results}
-use Rattle.rules.proofs.One.{one-leaves, OneOf, is-ok, is-no, apart-by}
+use Rattle.rules.proofs.One.{one-results, OneOf, is-ok, is-no, apart-by}
 use Rattle.changes.specs.declared.Opened.{Opened}
 use Rattle.changes.specs.declared.Opened.the-variants as opened
 use Rattle.changes.specs.declared.Changed.{Changed}
@@ -15,11 +15,11 @@ opened-is (opened.Seats n) = is-ok n
 opened-is (opened.Refused q) = is-no q
 
 pub one-opened : (x : Outcome) → One (Results openedAnswer x)
-one-opened = one-leaves (apart-by openedAnswer opened.Seats opened.Refused (λ v. refl) (λ q. refl) opened-is)
+one-opened = one-results (apart-by openedAnswer opened.Seats opened.Refused (λ v. refl) (λ q. refl) opened-is)
 
 changed-is : (r : Changed) → OneOf (λ b. changed.At (record { 0 = b })) changed.Refused r
 changed-is (changed.At b) = is-ok (b .0)
 changed-is (changed.Refused q) = is-no q
 
 pub one-changed : (x : Outcome) → One (Results changedAnswer x)
-one-changed = one-leaves (apart-by changedAnswer (λ b. changed.At (record { 0 = b })) changed.Refused (λ v. refl) (λ q. refl) changed-is)
+one-changed = one-results (apart-by changedAnswer (λ b. changed.At (record { 0 = b })) changed.Refused (λ v. refl) (λ q. refl) changed-is)

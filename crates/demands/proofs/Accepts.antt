@@ -1,4 +1,4 @@
--- A history accepts what the calls accept.
+-- The calls accept what a history accepts.
 -- Assumes nothing.
 use mathlib.Core.Path.{_≡_, sym, ap, _∙_}
 use mathlib.Core.List.{[], _∷_}

@@ -45,7 +45,7 @@ lastGiven x id [] = id
 lastGiven x id (taking old b ∷ h) = lastGiven x id h
 lastGiven x id (seating new b ∷ h) = lastGiven x (cond (eqb b x) new id) h
 
--- a seating fills the seat of the removal that it is struck with
+-- read as `struck` reads it: a seating fills the seat of the removal that it is struck with
 pub data Answers : (unanswered : List Change) → List Change → Type 0 where
   read : {unanswered : List Change} → Answers unanswered []
   removal : {id b : ℕ} {unanswered h : List Change} → Answers (taking id b ∷ unanswered) h → Answers unanswered (taking id b ∷ h)

@@ -1,4 +1,4 @@
--- Document 01, 'Opening', word by word: what `opened` has in each part at each place.
+-- Document 01, 'Opening', word by word: what `opened` has in A, R and S.
 use mathlib.Core.Bool.{cond}
 use mathlib.Core.List.{List, _++_}
 use Prim.Native.Nat.{ℕ, _+_, _-_}

@@ -44,7 +44,7 @@ module _ (T : Bare) (b : ℕ) (g : Kept T) (v : Leaves T b) (w : Written T b) wh
   onward : (q fuel : ℕ) → q < T .used - 1 → walkIn T′ (T .used - 1) (suc fuel) (T .W ! q) ≡ at (T′ .W ! q)
   onward q fuel h =
       let there = stands (kept-out g v) q in
-      elim (ℕ-discrete q (w .place)) [
+      elim (ℕ-discrete q (w .position)) [
         | no ne ↦ ap (walkIn T′ (T .used - 1) (suc fuel)) (sym (w .W-off q ne)) ∙ there (suc fuel) h
         | yes e ↦
             let was : T .W ! q ≡ b = cc in

@@ -24,7 +24,7 @@ pub const S: usize = 5;
 pub const PARTS: usize = 6;
 
 // The words before the parts: a and N.
-pub const FRONT: usize = 2;
+const FRONT: usize = 2;
 
 // The words of the longest run.
 pub const MOST_WORDS: usize = FRONT + PARTS * MOST_SEATS;
@@ -98,7 +98,7 @@ fn put(t: &mut [u32], a: usize, k: usize, i: usize, v: u32)
 }
 
 // Where a seat stands in the line of all a seats, and who stands at a position of it: b at b. Opening writes this
-// line, the audit starts from it, and a key's first draw falls on it.
+// line, the audit starts from it, and each draw of a key falls on it.
 pub fn first_position(b: Seat) -> Position
     ensures { λ r. ⌜ IsPosition (b .0) r ⌝ }
 {

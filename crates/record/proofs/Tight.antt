@@ -3,7 +3,7 @@
 use mathlib.Core.Path.{refl}
 use Rattle.promises.specs.One.{One}
 use Rattle.rules.specs.Answers.{Outcome, Results}
-use Rattle.rules.proofs.One.{one-leaves, OneOf, is-ok, is-no, apart-by}
+use Rattle.rules.proofs.One.{one-results, OneOf, is-ok, is-no, apart-by}
 use Rattle.record.specs.declared.Saved.{Saved}
 use Rattle.record.specs.declared.Saved.the-variants as saved
 use Rattle.record.specs.declared.Loaded.{Loaded}
@@ -15,11 +15,11 @@ saved-is (saved.Bytes n) = is-ok n
 saved-is (saved.Refused q) = is-no q
 
 pub one-saved : (x : Outcome) → One (Results savedAnswer x)
-one-saved = one-leaves (apart-by savedAnswer saved.Bytes saved.Refused (λ v. refl) (λ q. refl) saved-is)
+one-saved = one-results (apart-by savedAnswer saved.Bytes saved.Refused (λ v. refl) (λ q. refl) saved-is)
 
 loaded-is : (r : Loaded) → OneOf loaded.Seats loaded.Refused r
 loaded-is (loaded.Seats n) = is-ok n
 loaded-is (loaded.Refused q) = is-no q
 
 pub one-loaded : (x : Outcome) → One (Results loadedAnswer x)
-one-loaded = one-leaves (apart-by loadedAnswer loaded.Seats loaded.Refused (λ v. refl) (λ q. refl) loaded-is)
+one-loaded = one-results (apart-by loadedAnswer loaded.Seats loaded.Refused (λ v. refl) (λ q. refl) loaded-is)

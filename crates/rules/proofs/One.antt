@@ -15,8 +15,8 @@ Apart {R} answer = (r s : R) → answer r ≡ answer s → r ≡ s
 pub one-says : {R : Type 0} {answer : R → Answer} → Apart answer → (x : Answer) → One (Says answer x)
 one-says {answer = answer} apart = one-read answer apart
 
-pub one-leaves : {R : Type 0} {answer : R → Answer} → Apart answer → (x : Outcome) → One (Results answer x)
-one-leaves {R} {answer} apart =
+pub one-results : {R : Type 0} {answer : R → Answer} → Apart answer → (x : Outcome) → One (Results answer x)
+one-results {R} {answer} apart =
     one-read (λ (o : R × List ℕ). outcome (answer (o .0)) (o .1))
     (λ o p e.
     let r = apart (o .0) (p .0) (ap (λ (y : Outcome). y .answer) e) in

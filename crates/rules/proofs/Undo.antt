@@ -16,7 +16,7 @@ pub record Stands (T : Bare) (b : ℕ) : Type 0 where
   pub lenR : length (T .R) ≡ T .seats
   pub inUse : T .A ! b ≡ 0
   pub ownK : T .K ! b ≡ b
-  pub place : T .W ! (T .L ! b) ≡ b
+  pub position : T .W ! (T .L ! b) ≡ b
   pub last : T .L ! (T .W ! (T .used - 1)) ≡ T .used - 1
   pub rest : T .R ! (T .seats - T .used) ≡ 0
 
@@ -46,7 +46,7 @@ module _ {T : Bare} {b : ℕ} (s : Stands T b) where
         used = N-back i;
         A = set-back (T .A) b n 0 (s .inUse) i;
         K = set-back (T .K) b last b (s .ownK) i;
-        W = set-back (T .W) p last b (s .place) i;
+        W = set-back (T .W) p last b (s .position) i;
         L = T .L;
         R = set-back (T .R) end b 0 (s .rest) i;
       })

@@ -2,6 +2,7 @@
 ghost use mathlib.Core.Path.{_≡_};
 ghost use Rattle.rules.specs.Answers.{numberOf};
 
+// The largest a.
 pub const MOST_SEATS: usize = 2048;
 
 // The paper's bucket.

@@ -63,9 +63,9 @@ module _ (F : Bare) (t : Test F) (k : ℕ) (h : k < F .seats - F .used) (T : Bar
   cut-b = subst (λ (p : ℕ). Cut F p b) (omega arith) (t .cut k h)
 
   -- so its place is L's
-  F-L-b : F .L ! b ≡ w .place
+  F-L-b : F .L ! b ≡ w .position
   F-L-b =
-      let o : Owes F b (w .place) = rw (w .there) at (g .owes (w .place) (w .within)) in
+      let o : Owes F b (w .position) = rw (w .there) at (g .owes (w .position) (w .within)) in
       owes-gone o (rw F-A-b (omega arith))
 
   -- who left before is out of use
@@ -96,7 +96,7 @@ module _ (F : Bare) (t : Test F) (k : ℕ) (h : k < F .seats - F .used) (T : Bar
   ]
 
   -- and owes the place that it takes
-  last-owes : w .last ≢ b → Owes F (w .last) (w .place)
+  last-owes : w .last ≢ b → Owes F (w .last) (w .position)
   last-owes ne = elim cut-b [
     | stood k ↦ absurd (ne (cc F-W-last))
     | moved p under o ↦ rw (F-W-last, F-L-b) at o
@@ -105,7 +105,7 @@ module _ (F : Bare) (t : Test F) (k : ℕ) (h : k < F .seats - F .used) (T : Bar
   agrees′ : Agrees F T′
   agrees′ =
       record {
-        owes = λ q l. elim (ℕ-discrete q (w .place)) [
+        owes = λ q l. elim (ℕ-discrete q (w .position)) [
           | yes e ↦
               let ne : w .last ≢ b = differ (T .L) (omega arith) in
               rw e (rw (w .W-at) (last-owes ne))

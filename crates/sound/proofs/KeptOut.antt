@@ -58,18 +58,18 @@ module _ (T : Bare) (b : ℕ) (g : Kept T) (v : Leaves T b) (w : Written T b) wh
       let s = g .seated x h free in
       elim (ℕ-discrete x (w .last)) [
         | yes k ↦
-            let l : T′ .L ! x ≡ w .place = cc in
-            let moves : w .place ≢ T .used - 1 = λ m. nb (k ∙ w .nothingMoves m) in
+            let l : T′ .L ! x ≡ w .position = cc in
+            let moves : w .position ≢ T .used - 1 = λ m. nb (k ∙ w .nothingMoves m) in
             rw l (w .K-off x nb ∙ s .0, omega arith, w .W-at ∙ sym k)
         | no ne ↦
             let in′ : T .L ! x ≢ T .used - 1 = λ m. ne (cc) in
-            let off : T .L ! x ≢ w .place = λ m. nb (cc) in
+            let off : T .L ! x ≢ w .position = λ m. nb (cc) in
             rw (w .L-off x ne) (w .K-off x nb ∙ s .0, omega arith, w .W-off (T .L ! x) off ∙ s .2)
       ]
 
   line′ : (q : ℕ) → q < T′ .used → (T′ .W ! q < T .seats) × (T′ .A ! (T′ .W ! q) ≡ 0) × (T′ .L ! (T′ .W ! q) ≡ q)
   line′ q h =
-      elim (ℕ-discrete q (w .place)) [
+      elim (ℕ-discrete q (w .position)) [
         | yes k ↦
             let nb : w .last ≢ b = differ (T .L) (omega arith) in
             let at : T′ .W ! q ≡ w .last = cc in

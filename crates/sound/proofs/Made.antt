@@ -132,7 +132,7 @@ leaves-stands {T} {b} g v =
     let s = g .seated b (v .below) (v .inUse) in
     let l = g .line (T .used - 1) (omega arith) in
     let sh = g .shape in
-    record { some = sh .some; most = sh .most; lenR = sh .lenR; inUse = v .inUse; ownK = s .0; place = s .2; last = l .2; rest = g .order .rest _ (omega arith) }
+    record { some = sh .some; most = sh .most; lenR = sh .lenR; inUse = v .inUse; ownK = s .0; position = s .2; last = l .2; rest = g .order .rest _ (omega arith) }
 
 -- so seating puts back what taking out wrote
 pub undone : {T : Bare} {b : ℕ} → Kept T → Leaves T b → seat (out T b) ≡ T

@@ -47,7 +47,7 @@ module _ (T : Bare) (b : ℕ) (g : Kept T) (v : Leaves T b) (w : Written T b) wh
       | no h ↦ stays (rw (w .A-at) (omega arith)) (above q (omega arith) ∙ e ∙ k) (λ j. absurd (omega arith))
     ])
     | no ne ↦
-        let np : q ≢ w .place = λ k. ne (cc) in
+        let np : q ≢ w .position = λ k. ne (cc) in
         stays (rw (w .A-off x ne) m) (w .W-off q np ∙ e)
         (λ j. let lx = l (omega arith) in w .L-off x (differ (T .L) (omega arith)) ∙ lx)
   ]
@@ -56,7 +56,7 @@ module _ (T : Bare) (b : ℕ) (g : Kept T) (v : Leaves T b) (w : Written T b) wh
   cut-new = elim (ℕ-discrete (w .last) b) [
     | yes k ↦ stood (w .W-last ∙ k)
     | no ne ↦
-        let np : w .place ≢ T .used - 1 = λ k. ne (w .nothingMoves k) in
+        let np : w .position ≢ T .used - 1 = λ k. ne (w .nothingMoves k) in
         let free : T′ .A ! w .last ≡ 0 = w .A-off (w .last) ne ∙ w .lastInUse in
         moved (rw (w .W-last) (w .lastBelow)) (rw (w .L-b) (omega arith)) (rw (w .W-last, w .L-b) (stays (rw free (omega arith)) (w .W-at) (λ h. w .L-at)))
   ]

@@ -22,8 +22,8 @@ tells-refused x r n before e is-n =
 
 -- the call's result r is s
 module _ {R : Type 0} (answer : R → Answer) {r s : R} (e : r ≡ s) (before : List ℕ) where
-  pub leaves-fine : (x : Outcome) (vs w : List ℕ) → answer s ≡ fine vs → Results answer x (r, w) → Changes x before (0, vs, w)
-  leaves-fine x vs w is-fine h = record { told = tells-fine _ vs before (sym is-fine ∙ sym (ap answer e) ∙ ap (λ (o : Outcome). o .answer) h); leaves = ap (λ (o : Outcome). o .after) h }
+  pub results-fine : (x : Outcome) (vs w : List ℕ) → answer s ≡ fine vs → Results answer x (r, w) → Changes x before (0, vs, w)
+  results-fine x vs w is-fine h = record { told = tells-fine _ vs before (sym is-fine ∙ sym (ap answer e) ∙ ap (λ (o : Outcome). o .answer) h); leaves = ap (λ (o : Outcome). o .after) h }
 
-  pub leaves-refused : (x : Outcome) (q : Refusal) (n : ℕ) (w : List ℕ) → answer s ≡ refused q → n ≡ numberOf q → Results answer x (r, w) → Changes x before (n, before, w)
-  leaves-refused x q n w is-no is-n h = record { told = tells-refused _ q n before (sym is-no ∙ sym (ap answer e) ∙ ap (λ (o : Outcome). o .answer) h) is-n; leaves = ap (λ (o : Outcome). o .after) h }
+  pub results-refused : (x : Outcome) (q : Refusal) (n : ℕ) (w : List ℕ) → answer s ≡ refused q → n ≡ numberOf q → Results answer x (r, w) → Changes x before (n, before, w)
+  results-refused x q n w is-no is-n h = record { told = tells-refused _ q n before (sym is-no ∙ sym (ap answer e) ∙ ap (λ (o : Outcome). o .answer) h) is-n; leaves = ap (λ (o : Outcome). o .after) h }

@@ -31,7 +31,7 @@ use rules::number;
 // The bytes of the longest input; its ids, each with a space before it; and its answers: an empty line takes one byte, and its answer six.
 pub const MOST_INPUT: usize = 4096;
 
-pub const MOST_IDS: usize = MOST_INPUT / 2;
+const MOST_IDS: usize = MOST_INPUT / 2;
 
 pub const MOST_OUTPUT: usize = 6 * MOST_INPUT;
 

@@ -2,14 +2,14 @@
 -- Assumes nothing.
 use native.Mathlib.Omega.{arith}
 use borrow.Author.Needs.{needs}
-use Rattle.changes.proofs.Stores.{place-read, seated}
+use Rattle.changes.proofs.Stores.{position-read, seated}
 use Rattle.changes.proofs.seat_last.Statement.{statement}
 use Rattle.changes.proofs.seat_last.Tie as tie
 
 set-w-requires : tie.Need-set-w-requires
 set-w-requires c κs =
-    let place = c .before in
-    let s₃ = place .before .before .before .before in
+    let position = c .before in
+    let s₃ = position .before .before .before .before in
     let s₂ = s₃ .before .before .before .before in
     let s₁ = s₂ .before .before .before .before in
     let last = s₁ .before .before in
@@ -18,8 +18,8 @@ set-w-requires c κs =
     omega (
       arith,
       s,
-      place-read (s .args .t .now) (s .args .a) (s .pre .0) 0 (b .get-r .result .0) (last .get-w .result .0) (place .get-l .result .0) (s .pre .1) (b .get-r .ensures) (last .get-w .ensures)
-          (s₁ .clear-r .last .0) (s₂ .set-a .last .0) (s₃ .set-l .last .0) (s₁ .clear-r .ensures) (s₂ .set-a .ensures) (s₃ .set-l .ensures) (place .get-l .ensures),
+      position-read (s .args .t .now) (s .args .a) (s .pre .0) 0 (b .get-r .result .0) (last .get-w .result .0) (position .get-l .result .0) (s .pre .1) (b .get-r .ensures) (last .get-w .ensures)
+          (s₁ .clear-r .last .0) (s₂ .set-a .last .0) (s₃ .set-l .last .0) (s₁ .clear-r .ensures) (s₂ .set-a .ensures) (s₃ .set-l .ensures) (position .get-l .ensures),
     )
 
 set-k-requires : tie.Need-set-k-requires
@@ -49,17 +49,17 @@ returns c =
     let s₆ = s₇ .before .before .before .before in
     let s₅ = s₆ .before .before .before .before in
     let s₄ = s₅ .before .before .before .before in
-    let place = s₄ .before .before in
-    let s₃ = place .before .before .before .before in
+    let position = s₄ .before .before in
+    let s₃ = position .before .before .before .before in
     let s₂ = s₃ .before .before .before .before in
     let s₁ = s₂ .before .before .before .before in
     let last = s₁ .before .before in
     let b = last .before .before in
     let s = b .before .before .before .before in (
       b .get-r .ensures,
-      seated (s .args .t .now) (s .args .a) (s .pre .0) (s .args .id) (b .get-r .result .0) (last .get-w .result .0) (place .get-l .result .0) (s .pre .1) (b .get-r .ensures) (last .get-w .ensures)
+      seated (s .args .t .now) (s .args .a) (s .pre .0) (s .args .id) (b .get-r .result .0) (last .get-w .result .0) (position .get-l .result .0) (s .pre .1) (b .get-r .ensures) (last .get-w .ensures)
           (s₁ .clear-r .last .0) (s₂ .set-a .last .0) (s₃ .set-l .last .0) (s₁ .clear-r .ensures) (s₂ .set-a .ensures) (s₃ .set-l .ensures)
-          (s₄ .set-w .last .0) (s₅ .set-k .last .0) (s₆ .set-n .last .0) (s₇ .set-s .last .0) (place .get-l .ensures) (s₄ .set-w .ensures) (s₅ .set-k .ensures) (s₆ .set-n .ensures) (s₇ .set-s .ensures),
+          (s₄ .set-w .last .0) (s₅ .set-k .last .0) (s₆ .set-n .last .0) (s₇ .set-s .last .0) (position .get-l .ensures) (s₄ .set-w .ensures) (s₅ .set-k .ensures) (s₆ .set-n .ensures) (s₇ .set-s .ensures),
     )
 
 pub seat-last-spec : {M : Type 1} → statement M

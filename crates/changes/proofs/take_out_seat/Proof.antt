@@ -23,10 +23,10 @@ returns c =
     let s₃ = s₄ .before .before .before .before in
     let s₂ = s₃ .before .before .before .before in
     let s₁ = s₂ .before .before .before .before in
-    let place = s₁ .before .before in
-    let last = place .before .before in
+    let position = s₁ .before .before in
+    let last = position .before .before in
     let s = last .before .before .before .before in
-    taken-out (s .args .t .now) (s .args .a) (s .pre .0) (s .args .b .0) (last .get-w .result .0) (place .get-l .result .0) (s .pre .1) (last .get-w .ensures) (place .get-l .ensures)
+    taken-out (s .args .t .now) (s .args .a) (s .pre .0) (s .args .b .0) (last .get-w .result .0) (position .get-l .result .0) (s .pre .1) (last .get-w .ensures) (position .get-l .ensures)
     (s₁ .set-r .last .0) (s₂ .set-n .last .0) (s₃ .set-a .last .0) (s₄ .set-k .last .0) (s₅ .set-w .last .0) (s₆ .set-l .last .0) (s₇ .set-s .last .0)
     (s₁ .set-r .ensures) (s₂ .set-n .ensures) (s₃ .set-a .ensures) (s₄ .set-k .ensures) (s₅ .set-w .ensures) (s₆ .set-l .ensures) (s₇ .set-s .ensures)
 

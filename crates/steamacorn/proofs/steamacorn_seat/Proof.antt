@@ -3,7 +3,7 @@
 use borrow.Author.Needs.{needs}
 use mathlib.Core.Path.{refl}
 use Rattle.changes.specs.Calls.{changedAnswer}
-use Rattle.steamacorn.proofs.Tell.{leaves-fine, leaves-refused}
+use Rattle.steamacorn.proofs.Tell.{results-fine, results-refused}
 use Rattle.steamacorn.proofs.steamacorn_seat.Statement.{statement}
 use Rattle.steamacorn.proofs.steamacorn_seat.Tie as tie
 
@@ -11,13 +11,13 @@ returns : tie.Need-returns
 returns c =
     let k = c .before in
     let r = c .before .before .before .before .before in
-    leaves-fine changedAnswer (k .b .given .1) _ _ _ _ refl (r .seat-server .ensures)
+    results-fine changedAnswer (k .b .given .1) _ _ _ _ refl (r .seat-server .ensures)
 
 returns-2 : tie.Need-returns-2
 returns-2 c =
     let k = c .before .before in
     let r = c .before .before .before .before .before .before in
-    leaves-refused changedAnswer (k .why .given .1) _ _ (k .why .given .0 .0) _ _ refl (c .number .ensures) (r .seat-server .ensures)
+    results-refused changedAnswer (k .why .given .1) _ _ (k .why .given .0 .0) _ _ refl (c .number .ensures) (r .seat-server .ensures)
 
 pub steamacorn-seat-spec : {M : Type 1} → statement M
 steamacorn-seat-spec = tie.close (tie.spec (λ c κs. search needs) (λ c. search needs) (λ c. search needs) (λ c κs. search needs) (λ c. search needs) returns (λ c. search needs) returns-2)
