@@ -13,7 +13,7 @@ use Rattle.rules.specs.Answers.{fine, refused}
 use Rattle.rules.specs.declared.Refusal.the-variants.{Size, Damaged}
 use Rattle.rules.proofs.Words.{Legal, is-legal}
 use Rattle.parts.specs.Shape.{sizeOf, Shape}
-use Rattle.parts.specs.declared.Size.the-variants.{Seats}
+use Rattle.parts.specs.declared.Size.the-variants.{Is}
 use Rattle.parts.proofs.Sized.{legal-seats, shaped}
 use Rattle.sound.proofs.Sound.{sound?}
 use Rattle.promises.proofs.Decided.{true-or-false, yes-true, no-false}
@@ -44,7 +44,7 @@ module _ (w : List ℕ) where
     audit-fine s = rw (l, is-sound s) refl
 
 -- the same, by what the code has seen of a run for a seats
-module _ (w : List ℕ) (a : ℕ) (size : sizeOf w ≡ Seats a) where
+module _ (w : List ℕ) (a : ℕ) (size : sizeOf w ≡ Is a) where
   is-a : w ! 0 ≡ a
   is-a = legal-seats w a size .1
 
@@ -57,8 +57,8 @@ module _ (w : List ℕ) (a : ℕ) (size : sizeOf w ≡ Seats a) where
   pub shape : Shape w a
   shape = subst (λ (n : ℕ). Shape w n) is-a (shaped w (legal-seats w a size .0))
 
-  pub counted : 1 ≤ w ! 1 → w ! 1 ≤ a → Counted w a (w ! 1)
-  counted some most = record { shape = shape; isN = refl; some = some; most = most }
+  pub counted : (n : ℕ) → n ≡ w ! 1 → 1 ≤ n → n ≤ a → Counted w a n
+  counted n e some most = record { shape = shape; isN = sym e; some = some; most = most }
 
   refuse : (Pass w → ⊥) → refused Damaged ≡ auditCall w
   refuse n = audit-damaged w (legal-seats w a size .0) (λ s. n (sound-pass w known s))
@@ -75,7 +75,7 @@ module _ (w : List ℕ) (a : ℕ) (size : sizeOf w ≡ Seats a) where
   pub id-twice : repeats (tableFor a w .S) ≡ true → refused Damaged ≡ auditCall w
   id-twice r = refuse (λ p. true-or-false (repeats (tableFor a w .S)) r (subst (λ (n : ℕ). repeats (tableFor n w .S) ≡ false) is-a (p .once)))
 
-  pub all-well : ((i : ℕ) → w ! i < 2 ^ 32) → Counted w a (w ! 1) → AllPass (tableFor a w) a → repeats (tableFor a w .S) ≡ false → fine [] ≡ auditCall w
+  pub all-well : {n : ℕ} → ((i : ℕ) → w ! i < 2 ^ 32) → Counted w a n → AllPass (tableFor a w) a → repeats (tableFor a w .S) ≡ false → fine [] ≡ auditCall w
   all-well word c p r =
       audit-fine w (legal-seats w a size .0) (pass-sound w known
-      (record { some = c .some; most = rw is-a (c .most); all = subst (λ (n : ℕ). AllPass (tableFor n w) n) (sym is-a) p; once = subst (λ (n : ℕ). repeats (tableFor n w .S) ≡ false) (sym is-a) r }) word)
+      (record { some = rw (c .isN) (c .some); most = rw (c .isN, is-a) (c .most); all = subst (λ (n : ℕ). AllPass (tableFor n w) n) (sym is-a) p; once = subst (λ (n : ℕ). repeats (tableFor n w .S) ≡ false) (sym is-a) r }) word)

@@ -11,7 +11,7 @@ use Rattle.sound.specs.Test.{Owes, stays, Cut, stood, moved}
 use Rattle.sound.proofs.Audit.{owes-stays}
 use Rattle.promises.specs.Decides.{Decides}
 use Rattle.promises.proofs.Decided.{decides-iff}
-use Rattle.audit.specs.Pass.{Stands, SeatPasses, Removed, RemovalPasses, AllPass}
+use Rattle.audit.specs.Pass.{LineHas, SeatPasses, Removed, RemovalPasses, AllPass}
 
 -- the seat that stood last moved, if it is another
 has-moved : {T : Bare} {p b : ℕ} → Cut T p b → T .W ! p ≢ b → Owes T (T .W ! p) (T .L ! b)
@@ -27,7 +27,7 @@ moved-under (stood e) other = absurd (other e)
 moved-under (moved low under o) other = under
 
 -- a seat that leaves later than q was cut off, or never, owes q where it stands there
-pub owes-stands : (T : Bare) (x q : ℕ) (r : Bool) → T .A ! x < max q 1 → Decides r (Stands T x q) → Decides r (Owes T x q)
+pub owes-stands : (T : Bare) (x q : ℕ) (r : Bool) → T .A ! x < max q 1 → Decides r (LineHas T x q) → Decides r (Owes T x q)
 owes-stands T x q r h d = decides-iff r (λ s. stays h (s .there) (s .placed)) (λ o. let s = owes-stays o h in record { there = s .0; placed = s .1 }) d
 
 pub seat-used : (T : Table) (x : ℕ) (r : Bool) → T .bare .A ! x ≡ 0 → T .S ! x ≢ 0 → T .bare .K ! x ≡ x → Decides r (Owes (T .bare) x x) → Decides r (SeatPasses T x)

@@ -12,7 +12,7 @@ use Rattle.rules.specs.Table.{_!_, Table, base, tableOf}
 use Rattle.rules.specs.History.{Sound}
 use Rattle.rules.specs.Ids.{repeats}
 use Rattle.rules.proofs.Words.{Legal, part-length, part-word}
-use Rattle.sound.specs.Form.{Ids}
+use Rattle.sound.specs.Canonical.{Ids}
 use Rattle.sound.proofs.Reached.{Passes, passes, reached}
 use Rattle.sound.proofs.Sound.{sound-table, table-sound}
 use Rattle.ids.proofs.Meaning.{apart, not-repeats}

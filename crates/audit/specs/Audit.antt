@@ -16,9 +16,9 @@ unfoldable pub isSound : List ℕ → Bool
 isSound w = decided {P = Sound w} (sound? w)
 
 -- the number and the values of each answer
-abbrev pub answerOf : Audited → Answer
-answerOf audited.Sound = fine []
-answerOf (audited.Refused r) = refused r
+abbrev pub auditedAnswer : Audited → Answer
+auditedAnswer audited.Sound = fine []
+auditedAnswer (audited.Refused r) = refused r
 
 unfoldable pub auditCall : List ℕ → Answer
 unfolding isSound

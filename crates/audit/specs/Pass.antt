@@ -15,7 +15,7 @@ pub record Counted (w : List ℕ) (a n : ℕ) : Type 0 where
   pub most : n ≤ a
 
 -- x stands at q, or stood there when q was cut off
-pub record Stands (T : Bare) (x q : ℕ) : Type 0 where
+pub record LineHas (T : Bare) (x q : ℕ) : Type 0 where
   pub there : T .W ! q ≡ x
   pub placed : q < T .used → T .L ! x ≡ q
 

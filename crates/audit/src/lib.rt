@@ -1,17 +1,18 @@
 // The audit: whether a lent run is a sound table, told in one pass that reads and never writes.
+ghost use mathlib.Core.Path.{_≡_};
 ghost use Prim.Native.Nat.{_<_};
 ghost use Rattle.rules.specs.Table.{_!_, tableFor};
 ghost use Rattle.rules.specs.Answers.{Says};
 ghost use Rattle.sound.specs.Test.{Owes};
 ghost use Rattle.promises.specs.Decides.{Decides};
-ghost use Rattle.audit.specs.Pass.{Counted, Stands, SeatPasses, Removed, RemovalPasses, AllPass};
-ghost use Rattle.audit.specs.Audit.{answerOf, auditCall};
+ghost use Rattle.audit.specs.Pass.{Counted, LineHas, SeatPasses, Removed, RemovalPasses, AllPass};
+ghost use Rattle.audit.specs.Audit.{auditedAnswer, auditCall};
 use ids::repeats_in;
 use parts::Size;
-use parts::first_position;
 use parts::get_a;
 use parts::get_k;
 use parts::get_l;
+use parts::get_n;
 use parts::get_r;
 use parts::get_s;
 use parts::get_w;
@@ -29,7 +30,7 @@ pub enum Audited {
 // Is x the seat that W has at q, and, where q is in the line, q the position that L has for x?
 fn stands(t: &[u32], a: usize, n: usize, x: Seat, q: Position) -> bool
     requires { ⌜ (Counted (now t) a n) × (x .0 < a) × (q .0 < a) ⌝ }
-    ensures { λ r. ⌜ Decides r (Stands (tableFor a (now (t .entry)) .bare) (x .0) (q .0)) ⌝ }
+    ensures { λ r. ⌜ Decides r (LineHas (tableFor a (now (t .entry)) .bare) (x .0) (q .0)) ⌝ }
 {
     if get_w(t, a, q).0 != x.0 {
         return false;
@@ -55,9 +56,9 @@ fn owes(t: &[u32], a: usize, n: usize, x: Seat, q: Position) -> bool
     if get_l(t, a, x).0 == q.0 { true } else { false }
 }
 
-// Are the words of seat x right?
-fn seat_passes(t: &[u32], a: usize, n: usize, x: Seat) -> bool
-    requires { ⌜ (Counted (now t) a n) × (x .0 < a) ⌝ }
+// Are the words of seat x right? Its history begins where the line of all a seats has it.
+fn seat_passes(t: &[u32], a: usize, n: usize, x: Seat, first: Position) -> bool
+    requires { ⌜ (Counted (now t) a n) × (x .0 < a) × (first .0 ≡ x .0) ⌝ }
     ensures { λ r. ⌜ Decides r (SeatPasses (tableFor a (now (t .entry))) (x .0)) ⌝ }
 {
     let id = get_s(t, a, x);
@@ -69,7 +70,7 @@ fn seat_passes(t: &[u32], a: usize, n: usize, x: Seat) -> bool
         if get_k(t, a, x).0 != x.0 {
             return false;
         }
-        return owes(t, a, n, x, first_position(x));
+        return owes(t, a, n, x, first);
     }
     if id != 0 {
         return false;
@@ -83,7 +84,7 @@ fn seat_passes(t: &[u32], a: usize, n: usize, x: Seat) -> bool
     if get_r(t, a, a - 1 - left).0 != x.0 {
         return false;
     }
-    owes(t, a, n, x, first_position(x))
+    owes(t, a, n, x, first)
 }
 
 // Are the words right that the taking out of b, entry i of R, left?
@@ -127,7 +128,7 @@ fn removal_passes(t: &[u32], a: usize, n: usize, i: usize) -> bool
     if b.0 == 0 { true } else { false }
 }
 
-// One pass over A, K, W, L and R.
+// One pass over A, K, W, L and R. The line of all a seats has b at b, so i counts its seats and its positions.
 fn all_pass(t: &[u32], a: usize, n: usize) -> bool
     requires { ⌜ Counted (now t) a n ⌝ }
     ensures { λ r. ⌜ Decides r (AllPass (tableFor a (now (t .entry))) a) ⌝ }
@@ -135,19 +136,21 @@ fn all_pass(t: &[u32], a: usize, n: usize) -> bool
     let mut ok = true;
     let mut i: usize = 0;
     while i < a {
-        ok = ok & seat_passes(t, a, n, Seat(i as u32)) & removal_passes(t, a, n, i);
+        ok = ok
+            & seat_passes(t, a, n, Seat(i as u32), Position(i as u32))
+            & removal_passes(t, a, n, i);
         i += 1;
     }
     ok
 }
 
 pub fn audit_table(t: &[u32]) -> Audited
-    ensures { λ r. ⌜ Says answerOf (auditCall (now (t .entry))) r ⌝ }
+    ensures { λ r. ⌜ Says auditedAnswer (auditCall (now (t .entry))) r ⌝ }
 {
-    let Size::Seats(a) = size_of(t) else {
+    let Size::Is(a) = size_of(t) else {
         return Audited::Refused(Refusal::Size);
     };
-    let n = t[1] as usize;
+    let n = get_n(t) as usize;
     if n < 1 {
         return Audited::Refused(Refusal::Damaged);
     }

@@ -1,4 +1,3 @@
-pub mod Stores
 pub mod Ready
 pub mod Told
 pub mod Accepted

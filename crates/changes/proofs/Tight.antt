@@ -10,12 +10,12 @@ use Rattle.changes.specs.declared.Changed.{Changed}
 use Rattle.changes.specs.declared.Changed.the-variants as changed
 use Rattle.changes.specs.Calls.{openedAnswer, changedAnswer}
 
-opened-is : (r : Opened) → OneOf opened.Seats opened.Refused r
-opened-is (opened.Seats n) = is-ok n
+opened-is : (r : Opened) → OneOf opened.Used opened.Refused r
+opened-is (opened.Used n) = is-ok n
 opened-is (opened.Refused q) = is-no q
 
 pub one-opened : (x : Outcome) → One (Results openedAnswer x)
-one-opened = one-results (apart-by openedAnswer opened.Seats opened.Refused (λ v. refl) (λ q. refl) opened-is)
+one-opened = one-results (apart-by openedAnswer opened.Used opened.Refused (λ v. refl) (λ q. refl) opened-is)
 
 changed-is : (r : Changed) → OneOf (λ b. changed.At (record { 0 = b })) changed.Refused r
 changed-is (changed.At b) = is-ok (b .0)

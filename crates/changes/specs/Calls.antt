@@ -17,7 +17,7 @@ use Rattle.changes.specs.declared.Changed.the-variants as changes
 
 -- the number and the values of each answer
 abbrev pub openedAnswer : Opened → Answer
-openedAnswer (opens.Seats n) = fine (n ∷ [])
+openedAnswer (opens.Used n) = fine (n ∷ [])
 openedAnswer (opens.Refused r) = refused r
 
 abbrev pub changedAnswer : Changed → Answer

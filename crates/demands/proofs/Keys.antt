@@ -16,7 +16,7 @@ use Rattle.sound.proofs.Sound.{sound-legal, sound-table}
 use Rattle.lookups.specs.InUse.{Serves}
 use Rattle.lookups.specs.FewDraws.{Few}
 use Rattle.lookups.specs.Stay.{OnlyOn}
-use Rattle.lookups.proofs.EveryKey.{first-below, hash-draws}
+use Rattle.lookups.proofs.EveryTable.{first-below, hash-draws}
 use Rattle.lookups.proofs.BothRules as BothRules
 use Rattle.lookups.proofs.InUse as InUse
 use Rattle.lookups.proofs.FewDraws as FewDraws

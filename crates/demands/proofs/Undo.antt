@@ -15,7 +15,7 @@ use Rattle.rules.specs.Changes.{lastOut, takeOut, seatId}
 use Rattle.rules.specs.Ids.{occurs}
 use Rattle.rules.specs.History.{Id, taking, Sound}
 use Rattle.rules.specs.Answers.{Outcome, done}
-use Rattle.rules.proofs.Undo.{Stands, last-out, undo-id}
+use Rattle.rules.proofs.Undo.{Undoable, last-out, undo-id}
 use Rattle.rules.proofs.Words.{holds-table, holds-put, part-word}
 use Rattle.sound.proofs.Made.{leaves-stands}
 use Rattle.sound.proofs.Reached.{passes, leaves, reached-kept}
@@ -43,7 +43,7 @@ module _ (w : List ℕ) (server : ℕ) (s : Sound w) (two : 2 ≤ w ! 1) (some :
   taken : IsChange (taking server b) w v
   taken = out-changes w v server b s accepted
 
-  stands : Stands (T .bare) b
+  stands : Undoable (T .bare) b
   stands = let r = sound-table s in leaves-stands (reached-kept r) (leaves (passes r) (taken .accepts))
 
   one-word : (id : ℕ) → words (record { bare = T .bare; S = set (T .S) b id }) ≡ set w (idWord w b) id

@@ -17,9 +17,9 @@ abbrev pub callOf : List ℕ → Change → Outcome
 callOf w (taking id b) = outCall w id
 callOf w (seating id b) = seatCall w id
 
-abbrev pub seatOf : Change → ℕ
-seatOf (taking id b) = b
-seatOf (seating id b) = b
+abbrev pub answeredSeat : Change → ℕ
+answeredSeat (taking id b) = b
+answeredSeat (seating id b) = b
 
 abbrev pub AcceptsChange : Type 0
-AcceptsChange = (w : List ℕ) (c : Change) → Sound w → Accepts (tableOf w) c → callOf w c ≡ done (seatOf c ∷ []) (words (changed (tableOf w) c))
+AcceptsChange = (w : List ℕ) (c : Change) → Sound w → Accepts (tableOf w) c → callOf w c ≡ done (answeredSeat c ∷ []) (words (changed (tableOf w) c))

@@ -6,9 +6,9 @@ use Rattle.rules.specs.Answers.{Answer, Says}
 use Rattle.rules.proofs.Numbers.{not-fine, refused-injective}
 use Rattle.rules.proofs.One.{Apart, one-says}
 use Rattle.find.specs.declared.Lookup.the-variants.{On, Refused}
-use Rattle.find.specs.Find.{answerOf}
+use Rattle.find.specs.Find.{lookupAnswer}
 
-apart : Apart answerOf
+apart : Apart lookupAnswer
 apart (On b x d) (On c y e) h =
     let v = ap (λ (a : Answer). a .values) h in
     let seat : b .0 ≡ c .0 = cc in
@@ -19,5 +19,5 @@ apart (On b x d) (Refused q) h = not-fine q _ (sym h)
 apart (Refused p) (On c y e) h = not-fine p _ h
 apart (Refused p) (Refused q) h = ap Refused (refused-injective p q h)
 
-pub one-found : (x : Answer) → One (Says answerOf x)
+pub one-found : (x : Answer) → One (Says lookupAnswer x)
 one-found = one-says apart

@@ -11,9 +11,9 @@ use Rattle.find.specs.declared.Lookup.{Lookup}
 use Rattle.find.specs.declared.Lookup.the-variants.{On, Refused}
 
 -- the number and the values of a result
-abbrev pub answerOf : Lookup → Answer
-answerOf (On b server draws) = fine (b .0 ∷ server ∷ draws ∷ [])
-answerOf (Refused r) = refused r
+abbrev pub lookupAnswer : Lookup → Answer
+lookupAnswer (On b server draws) = fine (b .0 ∷ server ∷ draws ∷ [])
+lookupAnswer (Refused r) = refused r
 
 -- what the arrays lead to, with the server in the final seat; DAMAGED where that is 0
 abbrev pub served : List ℕ → Looked → Answer

@@ -2,17 +2,14 @@
 ghost use mathlib.Core.Path.{_≡_};
 ghost use Prim.Native.Nat.{_%_, _<_};
 ghost use lib.ListN.{length};
-ghost use Rattle.splitmix.specs.Generator.{output};
-ghost use Rattle.rules.specs.Keys.{walk};
+ghost use Rattle.rules.specs.Keys.{firstOf, pickOf, walk};
 ghost use Rattle.rules.specs.Answers.{Says};
-ghost use Rattle.find.specs.Find.{answerOf, findCall};
+ghost use Rattle.find.specs.Find.{lookupAnswer, findCall};
 ghost use Rattle.find.specs.Steps.{walkOf, Lookable, Looks};
 use parts::Size;
-use parts::first_seat;
 use parts::get_s;
 use parts::lend;
 use parts::size_of;
-use rules::Position;
 use rules::Refusal;
 use rules::Seat;
 use splitmix::draw;
@@ -35,12 +32,27 @@ enum Drawn {
     Damaged,
 }
 
-// Output n of the key's generator, taken as a position among m.
-fn pick(key: u64, n: u64, m: u32) -> Position
+fn remainder(x: u64, m: u32) -> u32
     requires { ⌜ 0 < m ⌝ }
-    ensures { λ r. ⌜ r .0 ≡ output n key % m ⌝ }
+    ensures { λ r. ⌜ r ≡ x % m ⌝ }
 {
-    Position((draw(n, key) % m as u64) as u32)
+    (x % m as u64) as u32
+}
+
+// The first seat: hash(k) mod a.
+fn first_seat(key: u64, a: u32) -> Seat
+    requires { ⌜ 0 < a ⌝ }
+    ensures { λ r. ⌜ r .0 ≡ firstOf key a ⌝ }
+{
+    Seat(remainder(draw(1, key), a))
+}
+
+// Where a redraw at seat b begins its walk: h = hash(b, k) mod A[b], an index of A.
+fn pick(key: u64, b: Seat, m: u32) -> Seat
+    requires { ⌜ 0 < m ⌝ }
+    ensures { λ r. ⌜ r .0 ≡ pickOf key (b .0) m ⌝ }
+{
+    Seat(remainder(draw(b.0 as u64 + 1, key), m))
 }
 
 // One redraw's walk along K, from a seat to the first whose A is below m. Algorithm 3 goes on where A is m, the paper's prose does not.
@@ -67,7 +79,7 @@ fn follow(A: &[u32], K: &[u32], m: u32, from: Seat) -> Redraw
     }
 }
 
-// All draws, from the first seat on. A redraw's position is one of a past line: today's W does not know who stood there, the walk does.
+// All draws, from the first seat on. Who stood there in the line of that time today's W does not know, and the walk does.
 fn look_up(A: &[u32], K: &[u32], key: u64, first: Seat) -> Drawn
     requires { ⌜ Lookable (now A) (now K) (first .0) ⌝ }
     ensures { λ r. ⌜ Looks (now (A .entry)) (now (K .entry)) key (first .0) r ⌝ }
@@ -79,7 +91,7 @@ fn look_up(A: &[u32], K: &[u32], key: u64, first: Seat) -> Drawn
         if m == 0 {
             return Drawn::At(b, draws);
         }
-        let Redraw::To(next) = follow(A, K, m, first_seat(pick(key, b.0 as u64 + 1, m))) else {
+        let Redraw::To(next) = follow(A, K, m, pick(key, b, m)) else {
             return Drawn::Damaged;
         };
         b = next;
@@ -89,12 +101,12 @@ fn look_up(A: &[u32], K: &[u32], key: u64, first: Seat) -> Drawn
 
 // The server for a key. It writes nothing, and needs no sound table.
 pub fn find_server(t: &[u32], key: u64) -> Lookup
-    ensures { λ r. ⌜ Says answerOf (findCall (now (t .entry)) key) r ⌝ }
+    ensures { λ r. ⌜ Says lookupAnswer (findCall (now (t .entry)) key) r ⌝ }
 {
-    let Size::Seats(a) = size_of(t) else {
+    let Size::Is(a) = size_of(t) else {
         return Lookup::Refused(Refusal::Size);
     };
-    let first = first_seat(pick(key, 1, a as u32));
+    let first = first_seat(key, a as u32);
     let Drawn::At(b, draws) = look_up(lend(t, a, parts::A), lend(t, a, parts::K), key, first) else {
         return Lookup::Refused(Refusal::Damaged);
     };

@@ -16,7 +16,7 @@ use Rattle.rules.specs.Table.{_!_, mostSeats}
 use Rattle.rules.proofs.Lists.{zeros-at}
 use Rattle.promises.proofs.Decided.{true-or-false}
 use Rattle.sound.specs.Kept.{Leaves}
-use Rattle.sound.specs.Form.{after}
+use Rattle.sound.specs.Canonical.{after}
 use Rattle.sound.proofs.Made.{after-counts}
 use Rattle.saved.specs.Reader.{listed, leftAt, bareFrom}
 use Rattle.saved.proofs.Each.{listed-at}

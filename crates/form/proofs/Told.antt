@@ -8,7 +8,7 @@ use native.Mathlib.Omega.{arith}
 use lib.ListN.{length}
 use lib.Dec.{eqb}
 use borrow.Author.Tests.{eq-eqb, eqb-true}
-use Rattle.rules.specs.Table.{_!_}
+use Rattle.rules.specs.Table.{_!_, mostSeats}
 use Rattle.promises.specs.Decides.{Decides}
 use Rattle.promises.proofs.Decided.{decides-iff}
 use Rattle.sound.proofs.Reached.{passes}
@@ -19,7 +19,7 @@ use Rattle.saved.proofs.Ranks.{rank-same}
 use Rattle.saved.proofs.Holds.{seats-is, used-is}
 use Rattle.saved.proofs.Back.{record?}
 use Rattle.saved.proofs.Exact.{outs-rank, exact}
-use Rattle.form.specs.declared.Form.the-variants.{Of, Bad}
+use Rattle.form.specs.declared.Recorded.the-variants.{Of, Bad}
 use Rattle.form.specs.Form.{formIn, formOf}
 use Rattle.form.specs.Tests.{Noted}
 
@@ -31,11 +31,11 @@ same-ins s m A B n same all b h z =
     subst (λ (k : ℕ). InFits s (inAt m k) b) as-far (all b h zero)
 
 module _ (s : List ℕ) (a n : ℕ) (head : HeadFits s a n) (flags : List ℕ) (outs : AllOut s a (a - n) (a - n)) (noted : Noted (bareFrom s a (a - n) (a - n) .A) flags a) where
-  pub ins-room : (a ≤ length flags) × (inAt (a - n) (rank flags a) ≤ length s)
+  pub ins-room : (a ≤ mostSeats) × (a ≤ length flags) × (inAt (a - n) (rank flags a) ≤ length s)
   ins-room =
       let all = outs-rank s a (a - n) (omega (arith, head)) outs in
       let r : rank flags a ≡ n = rank-same flags _ a (noted .same) ∙ all ∙ omega (arith, head) in
-      (omega (arith, noted .size, head .most), omega (arith, head .long))
+      (head .most, omega (arith, noted .size, head .most), omega (arith, head .long))
 
   pub body-told : (t : Bool) → AllIn s (a - n) flags a → Decides t (AllNew s (a - n) n) → Decides t (BodyFits s a n)
   body-told t ins = decides-iff t (λ apart. record { outs = outs; ins = same-ins s (a - n) flags _ a (noted .same) ins; apart = apart }) (λ f. f .apart)

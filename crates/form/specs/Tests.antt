@@ -8,10 +8,10 @@ use lib.Dec.{eqb}
 use Rattle.rules.specs.Table.{_!_, mostSeats}
 use Rattle.saved.specs.Reader.{outAt, seatsIn, usedIn, bareFrom}
 use Rattle.saved.specs.Fits.{HeadFits, OutFits, AllOut}
-use Rattle.form.specs.declared.Form.{Form}
-use Rattle.form.specs.declared.Form.the-variants.{Of, Bad}
+use Rattle.form.specs.declared.Recorded.{Recorded}
+use Rattle.form.specs.declared.Recorded.the-variants.{Of, Bad}
 
-abbrev pub HeadTold : List ℕ → Form → Type 0
+abbrev pub HeadTold : List ℕ → Recorded → Type 0
 HeadTold s (Of a n) = HeadFits s a n
 HeadTold s Bad = HeadFits s (seatsIn s) (usedIn s) → ⊥
 

@@ -22,38 +22,39 @@ use fields::in_at;
 use fields::number_at;
 use fields::out_at;
 use rules::MOST_SEATS;
+use rules::Seat;
 
 // a and N of a record's table, or no record.
-pub enum Form {
+pub enum Recorded {
     Of(usize, usize),
     Bad,
 }
 
 // The head, and whether the bytes are as many as it says.
-fn head_of(s: &[u8]) -> Form
+fn head_of(s: &[u8]) -> Recorded
     ensures { λ r. ⌜ HeadTold (now (s .entry)) r ⌝ }
 {
     if s.len() < HEAD {
-        return Form::Bad;
+        return Recorded::Bad;
     }
     if has_mark(s, 0, &HEAD_MARK) {
         let a = number_at(s, MARK, FIELD) as usize;
         let n = number_at(s, SECOND, FIELD) as usize;
         if MOST_SEATS < a {
-            return Form::Bad;
+            return Recorded::Bad;
         }
         if n < 1 {
-            return Form::Bad;
+            return Recorded::Bad;
         }
         if a < n {
-            return Form::Bad;
+            return Recorded::Bad;
         }
         if s.len() != in_at(a - n, n) {
-            return Form::Bad;
+            return Recorded::Bad;
         }
-        return Form::Of(a, n);
+        return Recorded::Of(a, n);
     }
-    Form::Bad
+    Recorded::Bad
 }
 
 // Record i of m removals: its mark, and a seat of the a that was not named before. The seat is noted.
@@ -63,14 +64,15 @@ fn note_out(s: &[u8], a: usize, m: usize, i: usize, gone: &mut [u8]) -> bool
 {
     let at = out_at(i);
     if has_mark(s, at, &OUT_MARK) {
-        let b = number_at(s, at + MARK, FIELD) as usize;
-        if a <= b {
+        let b = Seat(number_at(s, at + MARK, FIELD));
+        let seat = b.0 as usize;
+        if a <= seat {
             return false;
         }
-        if gone[b] != 0 {
+        if gone[seat] != 0 {
             return false;
         }
-        gone[b] = 1;
+        gone[seat] = 1;
         return true;
     }
     false
@@ -93,12 +95,12 @@ fn note_outs(s: &[u8], a: usize, m: usize, gone: &mut [u8]) -> bool
 }
 
 // A record of seat b, with a server.
-fn in_fits(s: &[u8], at: usize, b: usize) -> bool
+fn in_fits(s: &[u8], at: usize, b: Seat) -> bool
     requires { ⌜ at + 8 ≤ length (now s) ⌝ }
-    ensures { λ r. ⌜ Decides r (InFits (now (s .entry)) at b) ⌝ }
+    ensures { λ r. ⌜ Decides r (InFits (now (s .entry)) at (b .0)) ⌝ }
 {
     if has_mark(s, at, &IN_MARK) {
-        if number_at(s, at + MARK, FIELD) as usize != b {
+        if number_at(s, at + MARK, FIELD) != b.0 {
             return false;
         }
         if number_at(s, at + SECOND, SERVER) == 0 {
@@ -111,14 +113,14 @@ fn in_fits(s: &[u8], at: usize, b: usize) -> bool
 
 // The records of the seats that were not noted, ascending, after m removals.
 fn ins_fit(s: &[u8], a: usize, m: usize, gone: &[u8]) -> bool
-    requires { ⌜ (a ≤ length (now gone)) × (inAt m (rank (now gone) a) ≤ length (now s)) ⌝ }
+    requires { ⌜ (a ≤ mostSeats) × (a ≤ length (now gone)) × (inAt m (rank (now gone) a) ≤ length (now s)) ⌝ }
     ensures { λ r. ⌜ Decides r (AllIn (now (s .entry)) m (now (gone .entry)) a) ⌝ }
 {
     let mut j: usize = 0;
     let mut b: usize = 0;
     while b < a {
         if gone[b] == 0 {
-            if in_fits(s, in_at(m, j), b) {
+            if in_fits(s, in_at(m, j), Seat(b as u32)) {
                 j += 1;
             } else {
                 return false;
@@ -205,14 +207,14 @@ fn body_fits(s: &[u8], a: usize, n: usize) -> bool
 }
 
 // The seats of the table whose record the bytes are, and those in use.
-pub fn form_of(s: &[u8]) -> Form
+pub fn form_of(s: &[u8]) -> Recorded
     ensures { λ r. ⌜ r ≡ formOf (now (s .entry)) ⌝ }
 {
-    let Form::Of(a, n) = head_of(s) else {
-        return Form::Bad;
+    let Recorded::Of(a, n) = head_of(s) else {
+        return Recorded::Bad;
     };
     if body_fits(s, a, n) {
-        return Form::Of(a, n);
+        return Recorded::Of(a, n);
     }
-    Form::Bad
+    Recorded::Bad
 }

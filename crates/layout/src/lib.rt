@@ -7,6 +7,8 @@ ghost use Rattle.rules.specs.Changes.{count, opened, openA, openR, openS, openB
 ghost use Rattle.parts.specs.Shape.{Shape};
 ghost use Rattle.layout.specs.Layout.{firstA, firstR, firstS, withPart};
 use parts::start;
+use steps::set_n;
+use steps::set_seats;
 
 // What opening with w ids writes for seat i in A, for entry i of R of a seats, and for seat i in S.
 fn first_a(w: usize, i: usize) -> u32
@@ -112,8 +114,8 @@ fn set_head(t: &mut [u32], a: usize, w: usize)
     requires { ⌜ (Shape (now t) a) × (w ≤ a) ⌝ }
     ensures { λ _. ⌜ now (t .exit) ≡ set (set (now (t .entry)) 0 a) 1 w ⌝ }
 {
-    t[0] = a as u32;
-    t[1] = w as u32;
+    set_seats(t, a as u32);
+    set_n(t, w as u32);
 }
 
 // All but the ids.

@@ -1,20 +1,32 @@
 -- Words and commands of a line.
 -- Assumes nothing.
-use mathlib.Core.Path.{_≡_, refl, sym, ap}
+use mathlib.Core.Path.{_≡_, refl, sym, ap, ap₂}
 use mathlib.Core.Bool.{true, false}
-use mathlib.Core.List.{List, [], _∷_}
+use mathlib.Core.List.{List, [], _∷_, _++_}
 use mathlib.Core.Logic.{_≢_}
 use Prim.Native.Nat.{ℕ, _+_, _<_, _≤_}
 use native.Mathlib.Numerals.{add-one}
 use native.Mathlib.Omega.{arith}
 use lib.ListN.{length, getD, drop, drop-of-length-le}
 use lib.Seq.{drop-cons}
-use borrow.Author.Tests.{eq-eqb, ne-eqb}
+use lib.Dec.{eqb}
+use borrow.Author.Tests.{eq-eqb, ne-eqb, eqb-true}
+use Rattle.promises.proofs.Decided.{true-or-false, both}
 use Rattle.lines.specs.Lines.{Read, got, bad, next, last, given, mostId, mostKey, withA, idsBehind, starts, openWord, seatWord, outWord, findWord, seatLine, outLine, findLine, unknown, commandOf}
 use Rattle.lines.specs.Readings.{idsRead}
 use Rattle.lines.proofs.Got.{not-got, next-got}
 
--- starts, from the place i on
+-- starts
+
+pub starts-append : (word l : List ℕ) → starts word l ≡ true → l ≡ word ++ drop (length word) l
+unfolding starts
+starts-append [] l e = refl
+starts-append (c ∷ word) [] e = true-or-false false e refl
+starts-append (c ∷ word) (b ∷ l) e =
+    let h = both (eqb b c) (starts word l) e in
+    ap₂ (λ (x : ℕ) (m : List ℕ). x ∷ m) (eqb-true b c (h .0)) (starts-append word l (h .1))
+
+-- from the place i on
 
 module _ (s word : List ℕ) (i : ℕ) where
   pub starts-end : length word ≤ i → true ≡ starts (drop i word) (drop i s)

@@ -5,3 +5,4 @@ pub mod Commands
 pub mod Long
 pub mod Tight
 pub mod Standing
+pub mod LinesOf

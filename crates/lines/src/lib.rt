@@ -111,14 +111,14 @@ impl Cursor {
         if s.len() <= at {
             return Number::Bad;
         }
-        let d = s[at];
-        if d < 48 {
+        let first = s[at];
+        if first < 48 {
             return Number::Bad;
         }
-        if 57 < d {
+        if 57 < first {
             return Number::Bad;
         }
-        if d != 48 {
+        if first != 48 {
             return digits_from(s, at, lim);
         }
         let end = at + 1;

@@ -14,7 +14,7 @@ use Rattle.sound.specs.Kept.{Kept}
 use Rattle.rules.proofs.Lists.{zeros-at}
 use Rattle.sound.proofs.Passes.{test-full}
 use Rattle.sound.proofs.Reached.{reached-kept}
-use Rattle.lookups.specs.EveryKey.{Draws, EveryKey}
+use Rattle.lookups.specs.EveryTable.{Draws, EveryTable}
 use Rattle.rules.proofs.Walks.{walk-end, lookup-here}
 use Rattle.lookups.proofs.Walks.{gone}
 use Rattle.lookups.proofs.Since.{Lines, lines-since}
@@ -59,7 +59,7 @@ module _ (T : Bare) (ms : List Move) (pick : ℕ → ℕ → ℕ) (picks : Draws
   ]
 
 -- from the first seat, on every table that a history leaves
-pub every : EveryKey (λ T looked f. Finds (T .bare) 1 (T .bare .seats - T .bare .used) looked f)
+pub every : EveryTable (λ T looked f. Finds (T .bare) 1 (T .bare .seats - T .bare .used) looked f)
 every T r pick first picks i =
     let U = T .bare in
     let ms = movesOf (r .a) (r .ids) (r .history) in

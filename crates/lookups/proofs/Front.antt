@@ -11,7 +11,7 @@ use Rattle.rules.specs.Table.{_!_, Bare}
 use Rattle.rules.specs.Changes.{out}
 use Rattle.rules.specs.Keys.{at, full}
 use Rattle.sound.specs.Kept.{Kept, Leaves}
-use Rattle.sound.specs.Form.{after, Takeable}
+use Rattle.sound.specs.Canonical.{after, Takeable}
 use Rattle.sound.specs.Test.{Test}
 use Rattle.rules.proofs.Lists.{own-at}
 use Rattle.sound.proofs.Written.{Written, written}

@@ -11,7 +11,7 @@ use Rattle.rules.specs.Changes.{down, opened, out, seat}
 use Rattle.rules.specs.History.{Change, taking, seating, Opens, run, Accepted, done, then, Reached}
 use Rattle.rules.specs.Keys.{Move, leave, return, move, full, movesOf}
 use Rattle.sound.specs.Kept.{Leaves}
-use Rattle.sound.specs.Form.{after, Takeable}
+use Rattle.sound.specs.Canonical.{after, Takeable}
 use Rattle.rules.proofs.Lists.{length-down, down-at}
 use Rattle.sound.proofs.Made.{fewer-still, after-is, next-leaves}
 use Rattle.sound.proofs.Audit.{R-takeable, as-made}

@@ -5,7 +5,7 @@ pub mod Leads
 pub mod Since
 pub mod Finds
 -- Theorems.
-pub mod EveryKey
+pub mod EveryTable
 pub mod BothRules
 pub mod InUse
 pub mod FewDraws

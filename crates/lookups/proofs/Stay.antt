@@ -14,7 +14,7 @@ use Rattle.sound.specs.Kept.{Kept, Leaves}
 use Rattle.sound.proofs.Written.{Written, written}
 use Rattle.sound.proofs.Steps.{kept, seat-passes, seat-leaves, out-of-seat}
 use Rattle.sound.proofs.Reached.{passes, leaves, reached-kept}
-use Rattle.lookups.specs.Stay.{OnlyOn, TakingOut, Seating}
+use Rattle.lookups.specs.Stay.{OnlyOn, TakingOutKeeps, SeatingKeeps}
 use Rattle.rules.proofs.Walks.{lookup-here}
 use Rattle.lookups.proofs.Walks.{walkIn, gone, length-out, walk-out}
 
@@ -66,12 +66,12 @@ module _ (T : Bare) (b : ℕ) (g : Kept T) (v : Leaves T b) (w : Written T b) (p
         ];
       }
 
-pub taking-out : TakingOut
+pub taking-out : TakingOutKeeps
 taking-out T id b pick first r s =
     let v = leaves (passes r) s in
     only-on (T .bare) b (reached-kept r) v (written (reached-kept r) v) pick first
 
-pub seating : Seating
+pub seating : SeatingKeeps
 seating T id b pick first r s =
     let t = passes r .test in
     let U = seat (T .bare) in

@@ -1,6 +1,6 @@
 -- Document 01, 'Finding a key': "Draws is the number of hashes taken: 1 plus the redraws. On a sound table, draws is at most 1 + (a - N)."
 use Prim.Native.Nat.{ℕ, _+_, _-_, _≤_}
-use Rattle.lookups.specs.EveryKey.{EveryKey}
+use Rattle.lookups.specs.EveryTable.{EveryTable}
 
 -- d draws on a table of a seats, N of them in use
 pub record Few (a N d : ℕ) : Type 0 where
@@ -8,4 +8,4 @@ pub record Few (a N d : ℕ) : Type 0 where
   pub most : d ≤ 1 + (a - N)
 
 abbrev pub FewDraws : Type 0
-FewDraws = EveryKey (λ T looked f. Few (T .bare .seats) (T .bare .used) (f .draws))
+FewDraws = EveryTable (λ T looked f. Few (T .bare .seats) (T .bare .used) (f .draws))

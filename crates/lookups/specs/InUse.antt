@@ -4,7 +4,7 @@ use mathlib.Core.Logic.{_≢_}
 use Prim.Native.Nat.{_<_}
 use Rattle.rules.specs.Table.{_!_, Table}
 use Rattle.rules.specs.Keys.{Found}
-use Rattle.lookups.specs.EveryKey.{EveryKey}
+use Rattle.lookups.specs.EveryTable.{EveryTable}
 
 -- the seat found is in use, and has a server
 pub record Serves (T : Table) (f : Found) : Type 0 where
@@ -13,4 +13,4 @@ pub record Serves (T : Table) (f : Found) : Type 0 where
   pub server : T .S ! f .seat ≢ 0
 
 abbrev pub InUse : Type 0
-InUse = EveryKey (λ T looked f. Serves T f)
+InUse = EveryTable (λ T looked f. Serves T f)

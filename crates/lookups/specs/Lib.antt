@@ -1,5 +1,5 @@
 -- What is promised of finding a key, in the words of document 01 and the demands.
-pub mod EveryKey
+pub mod EveryTable
 pub mod BothRules
 pub mod InUse
 pub mod FewDraws

@@ -7,22 +7,22 @@ use Prim.Native.Nat.{ℕ, _≤_}
 use native.Mathlib.Omega.{arith}
 use Rattle.rules.specs.Table.{_!_, legal}
 use Rattle.parts.specs.Shape.{sizeOf, Shape}
-use Rattle.parts.specs.declared.Size.the-variants.{Seats, Illegal}
+use Rattle.parts.specs.declared.Size.the-variants.{Is, Illegal}
 use Rattle.rules.proofs.Words.{is-legal}
 
 pub illegal : (w : List ℕ) → sizeOf w ≡ Illegal → legal w ≡ false
 unfolding sizeOf
 illegal w e = go (legal w) e
   where
-    go : (t : Bool) → cond t (Seats (w ! 0)) Illegal ≡ Illegal → t ≡ false
+    go : (t : Bool) → cond t (Is (w ! 0)) Illegal ≡ Illegal → t ≡ false
     go true e = let z : _≡_ {A = ℕ} 0 1 = cc in absurd (omega arith)
     go false e = refl
 
-pub legal-seats : (w : List ℕ) (a : ℕ) → sizeOf w ≡ Seats a → (legal w ≡ true) × (w ! 0 ≡ a)
+pub legal-seats : (w : List ℕ) (a : ℕ) → sizeOf w ≡ Is a → (legal w ≡ true) × (w ! 0 ≡ a)
 unfolding sizeOf
 legal-seats w a e = go (legal w) e
   where
-    go : (t : Bool) → cond t (Seats (w ! 0)) Illegal ≡ Seats a → (t ≡ true) × (w ! 0 ≡ a)
+    go : (t : Bool) → cond t (Is (w ! 0)) Illegal ≡ Is a → (t ≡ true) × (w ! 0 ≡ a)
     go true e = (refl, cc)
     go false e = let z : _≡_ {A = ℕ} 0 1 = cc in absurd (omega arith)
 
@@ -36,7 +36,7 @@ pub record Told (w : List ℕ) (a : ℕ) : Type 0 where
   pub shape : Shape w a
   pub some : 1 ≤ a
 
-pub told-seats : (w : List ℕ) (a : ℕ) → sizeOf w ≡ Seats a → Told w a
+pub told-seats : (w : List ℕ) (a : ℕ) → sizeOf w ≡ Is a → Told w a
 told-seats w a e =
     let l = legal-seats w a e in
     record { isLegal = l .0; first = l .1; shape = rw (l .1) at (shaped w (l .0)); some = rw (l .1) at (is-legal w (l .0) .some) }

@@ -8,11 +8,11 @@ use Rattle.rules.specs.Table.{_!_, base, part, runLength, mostSeats, legal}
 use Rattle.rules.specs.declared.Seat.{Seat}
 use Rattle.rules.specs.declared.Position.{Position}
 use Rattle.parts.specs.declared.Size.{Size}
-use Rattle.parts.specs.declared.Size.the-variants.{Seats, Illegal}
+use Rattle.parts.specs.declared.Size.the-variants.{Is, Illegal}
 
 -- a run's seats, where its shape is legal
 unfoldable pub sizeOf : List ℕ → Size
-sizeOf w = cond (legal w) (Seats (w ! 0)) Illegal
+sizeOf w = cond (legal w) (Is (w ! 0)) Illegal
 
 -- a run for a seats
 pub record Shape (w : List ℕ) (a : ℕ) : Type 0 where

@@ -1,7 +1,7 @@
-// The parts of a lent run: its shape, and reads and stores in each part, with seats and positions kept apart.
+// The parts of a lent run: its shape, and reads in each part, with seats and positions kept apart.
 ghost use mathlib.Core.Path.{_≡_};
 ghost use Prim.Native.Nat.{_+_, _<_, _≤_, _^_};
-ghost use lib.ListN.{length, set};
+ghost use lib.ListN.{length};
 ghost use Rattle.rules.specs.Table.{_!_, base, part, tableFor};
 ghost use Rattle.parts.specs.Shape.{sizeOf, Shape, Lent, Lends, IsSeat, IsPosition};
 use rules::MOST_SEATS;
@@ -38,7 +38,7 @@ pub fn start(a: usize, k: usize) -> usize
 }
 
 pub enum Size {
-    Seats(usize),
+    Is(usize),
     Illegal,
 }
 
@@ -49,7 +49,7 @@ pub fn size_of(t: &[u32]) -> Size
     if t.len() < FRONT {
         return Size::Illegal;
     }
-    let a = t[0] as usize;
+    let a = get_seats(t) as usize;
     if a < 1 {
         return Size::Illegal;
     }
@@ -57,17 +57,10 @@ pub fn size_of(t: &[u32]) -> Size
         return Size::Illegal;
     }
     if t.len() == start(a, PARTS) {
-        Size::Seats(a)
+        Size::Is(a)
     } else {
         Size::Illegal
     }
-}
-
-fn put_at(part: &mut [u32], i: usize, v: u32)
-    requires { ⌜ i < length (now part) ⌝ }
-    ensures { λ _. ⌜ now (part .exit) ≡ set (now (part .entry)) i v ⌝ }
-{
-    part[i] = v;
 }
 
 // Part k, lent.
@@ -86,29 +79,6 @@ fn word(t: &[u32], a: usize, k: usize, i: usize) -> u32
 {
     let part = lend(t, a, k);
     part[i]
-}
-
-// Word i of part k becomes v.
-fn put(t: &mut [u32], a: usize, k: usize, i: usize, v: u32)
-    requires { ⌜ Lent (now t) a k i ⌝ }
-    ensures { λ _. ⌜ now (t .exit) ≡ set (now (t .entry)) (base a k + i) v ⌝ }
-{
-    let lo = start(a, k);
-    put_at(&mut t[lo..lo + a], i, v);
-}
-
-// Where a seat stands in the line of all a seats, and who stands at a position of it: b at b. Opening writes this
-// line, the audit starts from it, and each draw of a key falls on it.
-pub fn first_position(b: Seat) -> Position
-    ensures { λ r. ⌜ IsPosition (b .0) r ⌝ }
-{
-    Position(b.0)
-}
-
-pub fn first_seat(p: Position) -> Seat
-    ensures { λ r. ⌜ IsSeat (p .0) r ⌝ }
-{
-    Seat(p.0)
 }
 
 // The part S, whole.
@@ -162,59 +132,17 @@ pub fn get_s(t: &[u32], a: usize, b: Seat) -> u32
     word(t, a, S, b.0 as usize)
 }
 
-// The stores.
-pub fn set_n(t: &mut [u32], n: u32)
+// The words before the parts: a, and N.
+pub fn get_seats(t: &[u32]) -> u32
+    requires { ⌜ 0 < length (now t) ⌝ }
+    ensures { λ r. ⌜ r ≡ now (t .entry) ! 0 ⌝ }
+{
+    t[0]
+}
+
+pub fn get_n(t: &[u32]) -> u32
     requires { ⌜ 1 < length (now t) ⌝ }
-    ensures { λ _. ⌜ now (t .exit) ≡ set (now (t .entry)) 1 n ⌝ }
+    ensures { λ r. ⌜ r ≡ now (t .entry) ! 1 ⌝ }
 {
-    t[1] = n;
-}
-
-pub fn set_a(t: &mut [u32], a: usize, b: Seat, x: u32)
-    requires { ⌜ Lent (now t) a 0 (b .0) ⌝ }
-    ensures { λ _. ⌜ now (t .exit) ≡ set (now (t .entry)) (base a 0 + b .0) x ⌝ }
-{
-    put(t, a, A, b.0 as usize, x);
-}
-
-pub fn set_k(t: &mut [u32], a: usize, b: Seat, x: Seat)
-    requires { ⌜ Lent (now t) a 1 (b .0) ⌝ }
-    ensures { λ _. ⌜ now (t .exit) ≡ set (now (t .entry)) (base a 1 + b .0) (x .0) ⌝ }
-{
-    put(t, a, K, b.0 as usize, x.0);
-}
-
-pub fn set_w(t: &mut [u32], a: usize, p: Position, x: Seat)
-    requires { ⌜ Lent (now t) a 2 (p .0) ⌝ }
-    ensures { λ _. ⌜ now (t .exit) ≡ set (now (t .entry)) (base a 2 + p .0) (x .0) ⌝ }
-{
-    put(t, a, W, p.0 as usize, x.0);
-}
-
-pub fn set_l(t: &mut [u32], a: usize, b: Seat, x: Position)
-    requires { ⌜ Lent (now t) a 3 (b .0) ⌝ }
-    ensures { λ _. ⌜ now (t .exit) ≡ set (now (t .entry)) (base a 3 + b .0) (x .0) ⌝ }
-{
-    put(t, a, L, b.0 as usize, x.0);
-}
-
-pub fn set_r(t: &mut [u32], a: usize, i: usize, x: Seat)
-    requires { ⌜ Lent (now t) a 4 i ⌝ }
-    ensures { λ _. ⌜ now (t .exit) ≡ set (now (t .entry)) (base a 4 + i) (x .0) ⌝ }
-{
-    put(t, a, R, i, x.0);
-}
-
-pub fn clear_r(t: &mut [u32], a: usize, i: usize)
-    requires { ⌜ Lent (now t) a 4 i ⌝ }
-    ensures { λ _. ⌜ now (t .exit) ≡ set (now (t .entry)) (base a 4 + i) 0 ⌝ }
-{
-    put(t, a, R, i, 0);
-}
-
-pub fn set_s(t: &mut [u32], a: usize, b: Seat, x: u32)
-    requires { ⌜ Lent (now t) a 5 (b .0) ⌝ }
-    ensures { λ _. ⌜ now (t .exit) ≡ set (now (t .entry)) (base a 5 + b .0) x ⌝ }
-{
-    put(t, a, S, b.0 as usize, x);
+    t[1]
 }

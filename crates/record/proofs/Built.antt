@@ -13,11 +13,11 @@ use Rattle.rules.specs.Changes.{out, takeOut, openBare}
 use Rattle.rules.specs.Keys.{full}
 use Rattle.rules.proofs.Parts.{All, none, more}
 use Rattle.rules.proofs.Words.{Holds, holds-put, tableOf-words, length-words}
-use Rattle.sound.specs.Form.{after}
+use Rattle.sound.specs.Canonical.{after}
 use Rattle.sound.proofs.Made.{After, after-is, fewer-still}
 use Rattle.layout.proofs.Filling.{Filled, filled-none, filled-more, filled-all}
-use Rattle.changes.specs.Steps.{Leads, CanTake}
-use Rattle.changes.proofs.Ready.{can-leave}
+use Rattle.moves.specs.Moves.{Leads, CanTake}
+use Rattle.moves.proofs.Ready.{can-leave}
 use Rattle.saved.specs.Reader.{listed, rank, inAt, leftAt, serverAt, serverOf, bareFrom, tableFrom}
 use Rattle.saved.proofs.Each.{length-listed, listed-at}
 use Rattle.saved.proofs.Ranks.{rank-used, rank-out, rank-mono}

@@ -17,7 +17,7 @@ use Rattle.saved.specs.Record.{IsRecord}
 use Rattle.saved.specs.Reader.{tableFrom}
 use Rattle.saved.proofs.Back.{record?, record-table}
 use Rattle.saved.proofs.Exact.{record-head, record-body}
-use Rattle.form.specs.declared.Form.the-variants.{Of, Bad}
+use Rattle.form.specs.declared.Recorded.the-variants.{Of, Bad}
 use Rattle.form.specs.Form.{formIn, formOf}
 use Rattle.record.specs.Building.{Good}
 use Rattle.record.specs.Calls.{loadBy, loadCall}

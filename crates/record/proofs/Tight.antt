@@ -17,9 +17,9 @@ saved-is (saved.Refused q) = is-no q
 pub one-saved : (x : Outcome) → One (Results savedAnswer x)
 one-saved = one-results (apart-by savedAnswer saved.Bytes saved.Refused (λ v. refl) (λ q. refl) saved-is)
 
-loaded-is : (r : Loaded) → OneOf loaded.Seats loaded.Refused r
-loaded-is (loaded.Seats n) = is-ok n
+loaded-is : (r : Loaded) → OneOf loaded.Used loaded.Refused r
+loaded-is (loaded.Used n) = is-ok n
 loaded-is (loaded.Refused q) = is-no q
 
 pub one-loaded : (x : Outcome) → One (Results loadedAnswer x)
-one-loaded = one-results (apart-by loadedAnswer loaded.Seats loaded.Refused (λ v. refl) (λ q. refl) loaded-is)
+one-loaded = one-results (apart-by loadedAnswer loaded.Used loaded.Refused (λ v. refl) (λ q. refl) loaded-is)

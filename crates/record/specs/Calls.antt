@@ -21,7 +21,7 @@ savedAnswer (saved.Bytes n) = fine (n ∷ [])
 savedAnswer (saved.Refused r) = refused r
 
 abbrev pub loadedAnswer : Loaded → Answer
-loadedAnswer (loaded.Seats n) = fine (n ∷ [])
+loadedAnswer (loaded.Used n) = fine (n ∷ [])
 loadedAnswer (loaded.Refused r) = refused r
 
 -- Saving the run w into the bytes out: only the record's bytes are written

@@ -13,7 +13,6 @@ ghost use Rattle.record.specs.Building.{Laid, Good, Next};
 ghost use Rattle.record.specs.Calls.{savedAnswer, saveCall, loadedAnswer, loadCall};
 use audit::Audited;
 use audit::audit_table;
-use changes::take_out_seat;
 use fields::FIELD;
 use fields::HEAD_MARK;
 use fields::IN;
@@ -27,18 +26,21 @@ use fields::number_at;
 use fields::out_at;
 use fields::put_mark;
 use fields::put_number;
-use form::Form;
+use form::Recorded;
 use form::form_of;
 use form::server_at;
 use layout::lay_bare;
+use moves::take_out_seat;
 use parts::PARTS;
 use parts::get_a;
+use parts::get_n;
 use parts::get_r;
 use parts::get_s;
-use parts::set_s;
+use parts::get_seats;
 use parts::start;
 use rules::Refusal;
 use rules::Seat;
+use steps::put_s;
 
 // The bytes written, or why none were.
 pub enum Saved {
@@ -48,7 +50,7 @@ pub enum Saved {
 
 // The seats in use after a load, or why it is refused.
 pub enum Loaded {
-    Seats(u32),
+    Used(u32),
     Refused(Refusal),
 }
 
@@ -121,14 +123,14 @@ fn save_sound(t: &[u32], out: &mut [u8]) -> Saved
     requires { ⌜ Sound (now t) ⌝ }
     ensures { λ r. ⌜ Results savedAnswer (saveCall (now (t .entry)) (now (out .entry))) (r, now (out .exit)) ⌝ }
 {
-    let a = t[0] as usize;
-    let n = t[1] as usize;
+    let a = get_seats(t) as usize;
+    let n = get_n(t) as usize;
     let m = a - n;
     let len = in_at(m, n);
     if out.len() < len {
         return Saved::Refused(Refusal::Room);
     }
-    put_head(out, t[0], t[1]);
+    put_head(out, a as u32, n as u32);
     put_outs(out, t, a, m);
     put_ins(out, in_at(m, 0), t, a);
     Saved::Bytes(len)
@@ -165,10 +167,10 @@ fn put_server(t: &mut [u32], s: &[u8], a: usize, m: usize, b: Seat, j: usize) ->
     ensures run { λ r. ⌜ now (t .exit) ≡ set (now (t .entry)) (base a 5 + b .0) (serverOf (now (s .entry)) m (tableFor a (now (t .entry)) .bare .A) (b .0)) ⌝ }
 {
     if get_a(t, a, b) != 0 {
-        set_s(t, a, b, 0);
+        put_s(t, a, b, 0);
         return j;
     }
-    set_s(t, a, b, server_at(s, m, j));
+    put_s(t, a, b, server_at(s, m, j));
     j + 1
 }
 
@@ -200,12 +202,12 @@ fn build(t: &mut [u32], s: &[u8], a: usize, n: usize)
 pub fn load(t: &mut [u32], s: &[u8]) -> Loaded
     ensures { λ r. ⌜ Results loadedAnswer (loadCall (now (t .entry)) (now (s .entry))) (r, now (t .exit)) ⌝ }
 {
-    let Form::Of(a, n) = form_of(s) else {
+    let Recorded::Of(a, n) = form_of(s) else {
         return Loaded::Refused(Refusal::Form);
     };
     if t.len() != start(a, PARTS) {
         return Loaded::Refused(Refusal::Size);
     }
     build(t, s, a, n);
-    Loaded::Seats(n as u32)
+    Loaded::Used(n as u32)
 }

@@ -10,7 +10,7 @@ use Rattle.rules.specs.Changes.{out, seat, lastOut, takeOut, seatId}
 use Rattle.rules.proofs.Lists.{keeps, set-back}
 
 -- what taking b out and seating ask of a table: b is in use, and stands in the line; so does the line's last seat
-pub record Stands (T : Bare) (b : ℕ) : Type 0 where
+pub record Undoable (T : Bare) (b : ℕ) : Type 0 where
   pub some : 1 ≤ T .used
   pub most : T .used ≤ T .seats
   pub lenR : length (T .R) ≡ T .seats
@@ -20,7 +20,7 @@ pub record Stands (T : Bare) (b : ℕ) : Type 0 where
   pub last : T .L ! (T .W ! (T .used - 1)) ≡ T .used - 1
   pub rest : T .R ! (T .seats - T .used) ≡ 0
 
-module _ {T : Bare} {b : ℕ} (s : Stands T b) where
+module _ {T : Bare} {b : ℕ} (s : Undoable T b) where
   abbrev end : ℕ
   end = T .seats - T .used
 
@@ -34,13 +34,21 @@ module _ {T : Bare} {b : ℕ} (s : Stands T b) where
   pub last-out : lastOut (out T b) ≡ b
   last-out = rw end-same end-b
 
+  -- the seat that stands last has its position back
+  pub L-back : seat (out T b) .L ≡ T .L
+  L-back =
+      let n = T .used - 1 in
+      let p = T .L ! b in
+      let last = T .W ! n in
+      ap (λ (x : ℕ). set (set (T .L) last p) x n) (keeps (T .W) p n) ∙ set-back (T .L) last p n (s .last)
+
   pub undo : seat (out T b) ≡ T
   undo =
       let n = T .used - 1 in
       let p = T .L ! b in
       let last = T .W ! n in
       let N-back : n + 1 ≡ T .used = omega (arith, s .some) in
-      rw (end-same, end-b, keeps (T .W) p n, set-back (T .L) last p n (s .last))
+      rw (end-same, end-b, L-back)
       (λ i. record {
         seats = T .seats;
         used = N-back i;
@@ -52,7 +60,7 @@ module _ {T : Bare} {b : ℕ} (s : Stands T b) where
       })
 
 -- with the ids: every word is as it was, except the id in that one seat
-pub undo-id : (T : Table) (b id : ℕ) → Stands (T .bare) b → seatId (takeOut T b) id ≡ record { bare = T .bare; S = set (T .S) b id }
+pub undo-id : (T : Table) (b id : ℕ) → Undoable (T .bare) b → seatId (takeOut T b) id ≡ record { bare = T .bare; S = set (T .S) b id }
 undo-id T b id s =
     let S-back = ap (λ (x : ℕ). set (set (T .S) b 0) x id) (last-out s) ∙ set-set (T .S) b 0 id in
     λ i. record { bare = undo s i; S = S-back i }

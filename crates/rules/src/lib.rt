@@ -8,7 +8,7 @@ pub const MOST_SEATS: usize = 2048;
 // The paper's bucket.
 pub struct Seat(pub u32);
 
-// A place in the working line. W and L are the only ways between the two, and for the line of all seats `parts::first_seat` and `first_position`.
+// A place in the working line. W and L are the only ways between the two.
 pub struct Position(pub u32);
 
 // Why a call refuses; `numberOf` gives each its number.

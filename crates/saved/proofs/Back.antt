@@ -11,7 +11,7 @@ use lib.Seq.{ext-getD}
 use borrow.Author.Tests.{eq-eqb, ne-eqb}
 use Rattle.rules.specs.Table.{_!_, Bare, Table}
 use Rattle.rules.specs.History.{Reached}
-use Rattle.sound.specs.Form.{after}
+use Rattle.sound.specs.Canonical.{after}
 use Rattle.sound.proofs.Made.{after-first}
 use Rattle.sound.proofs.Audit.{as-made}
 use Rattle.sound.proofs.Reached.{Passes, passes}

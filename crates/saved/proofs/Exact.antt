@@ -12,7 +12,7 @@ use lib.ListN.{length}
 use borrow.Author.Tests.{eq-eqb, ne-eqb}
 use Rattle.rules.specs.Table.{_!_, Bare, Table}
 use Rattle.sound.specs.Kept.{Leaves}
-use Rattle.sound.specs.Form.{after, Takeable, Ids}
+use Rattle.sound.specs.Canonical.{after, Takeable, Ids}
 use Rattle.sound.proofs.Made.{After, after-is, fewer-still, next-leaves, takeable-each}
 use Rattle.sound.proofs.Passes.{made-passes}
 use Rattle.sound.proofs.Audit.{R-takeable}

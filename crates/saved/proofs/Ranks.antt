@@ -13,7 +13,7 @@ use lib.Dec.{eqb}
 use borrow.Author.Tests.{eq-eqb, ne-eqb}
 use Rattle.rules.specs.Table.{_!_, Bare, Table}
 use Rattle.rules.proofs.Lists.{zeros-at}
-use Rattle.sound.specs.Form.{after, Takeable}
+use Rattle.sound.specs.Canonical.{after, Takeable}
 use Rattle.sound.specs.Test.{Test}
 use Rattle.sound.proofs.Made.{after-is, fewer-still, next-leaves}
 use Rattle.sound.proofs.Audit.{R-takeable, as-made}

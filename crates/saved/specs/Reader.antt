@@ -6,7 +6,7 @@ use Prim.Native.Nat.{ℕ, zero, suc, _+_, _*_, _-_}
 use lib.ListN.{length, take, drop}
 use lib.Dec.{eqb}
 use Rattle.rules.specs.Table.{_!_, Bare, Table}
-use Rattle.sound.specs.Form.{after}
+use Rattle.sound.specs.Canonical.{after}
 use Rattle.saved.specs.Record.{field, each}
 
 -- the number that stands in so many bytes at `at`, big-endian

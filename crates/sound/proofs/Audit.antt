@@ -14,7 +14,7 @@ use lib.Seq.{ext-getD, getD-take, length-take-le}
 use Rattle.rules.specs.Table.{Bare, _!_}
 use Rattle.rules.specs.Changes.{out}
 use Rattle.sound.specs.Kept.{Order}
-use Rattle.sound.specs.Form.{after, Takeable, Canonical}
+use Rattle.sound.specs.Canonical.{after, Takeable, Canonical}
 use Rattle.sound.specs.Test.{Owes, gone, stays, Cut, stood, moved, Test}
 use Rattle.rules.proofs.Lists.{differ, count-at, zeros-at}
 use Rattle.sound.proofs.Written.{Written, written}

@@ -10,7 +10,7 @@ use lib.ListN.{length, set, length-set}
 use lib.Seq.{getD-set-same, getD-set-other}
 use Rattle.rules.specs.Table.{_!_}
 use Rattle.rules.specs.History.{Id}
-use Rattle.sound.specs.Form.{Ids}
+use Rattle.sound.specs.Canonical.{Ids}
 
 module _ (a : ℕ) (A S : List ℕ) (b n id : ℕ) (g : Ids a A S) (h : b < a) (len : length A ≡ a)
     (out′ : 1 ≤ n → id ≡ 0) (in′ : n ≡ 0 → Id id) (new : id ≢ 0 → (x : ℕ) → x < a → S ! x ≢ id) where

@@ -10,9 +10,9 @@ use lib.ListN.{length, replicate, length-append, length-replicate, length-set, L
 use lib.Seq.{ext-getD}
 use Rattle.rules.specs.Table.{_!_, Bare}
 use Rattle.rules.specs.Changes.{out, seat}
-use Rattle.rules.proofs.Undo.{Stands, undo}
-use Rattle.sound.specs.Kept.{Kept, Shape, Leaves}
-use Rattle.sound.specs.Form.{after, made, Takeable}
+use Rattle.rules.proofs.Undo.{Undoable, undo}
+use Rattle.sound.specs.Kept.{Kept, Lengths, Leaves}
+use Rattle.sound.specs.Canonical.{after, made, Takeable}
 use Rattle.rules.proofs.Lists.{padded}
 use Rattle.sound.proofs.Written.{written}
 use Rattle.sound.proofs.KeptOut.{kept-full, kept-out}
@@ -93,7 +93,7 @@ after-first a rs ss (suc k) h = ap₂ out (after-first a rs ss k (λ i l. h i (o
 pub record Made (a : ℕ) (rs : List ℕ) (T : Bare) : Type 0 where
   pub seats : T .seats ≡ a
   pub used : T .used ≡ a - length rs
-  pub shape : Shape T
+  pub shape : Lengths T
   pub inUse : (x : ℕ) → x < a → ((i : ℕ) → i < length rs → rs ! i ≢ x) → T .A ! x ≡ 0
   pub seated : (x : ℕ) → x < a → T .A ! x ≡ 0 → (T .K ! x ≡ x) × (T .L ! x < T .used) × (T .W ! (T .L ! x) ≡ x)
   pub line : (p : ℕ) → p < T .used → (T .W ! p < a) × (T .A ! (T .W ! p) ≡ 0) × (T .L ! (T .W ! p) ≡ p)
@@ -127,7 +127,7 @@ pub theorem : (a : ℕ) (rs : List ℕ) → Takeable a rs (length rs) → Made a
 theorem a rs t = facts a rs (made a rs) (after-is a rs (length rs) t) (t .fewer)
 
 -- a seat that may leave stands in the line
-pub leaves-stands : {T : Bare} {b : ℕ} → Kept T → Leaves T b → Stands T b
+pub leaves-stands : {T : Bare} {b : ℕ} → Kept T → Leaves T b → Undoable T b
 leaves-stands {T} {b} g v =
     let s = g .seated b (v .below) (v .inUse) in
     let l = g .line (T .used - 1) (omega arith) in

@@ -10,7 +10,7 @@ use lib.ListN.{length, replicate, length-append, length-replicate, List·getD-ap
 use Rattle.rules.specs.Table.{_!_}
 use Rattle.rules.specs.Changes.{count, down, opened}
 use Rattle.rules.specs.History.{Opens}
-use Rattle.sound.specs.Form.{Ids}
+use Rattle.sound.specs.Canonical.{Ids}
 use Rattle.sound.specs.Test.{gone, stays, stood, Test}
 use Rattle.rules.proofs.Lists.{length-down, down-at, counted, zeros-at, length-count, own-at, padded}
 

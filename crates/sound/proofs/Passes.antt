@@ -10,7 +10,7 @@ use Rattle.rules.specs.Table.{Bare, _!_}
 use Rattle.rules.specs.Changes.{out}
 use Rattle.rules.specs.Keys.{full}
 use Rattle.sound.specs.Kept.{Kept, Leaves}
-use Rattle.sound.specs.Form.{after, Takeable}
+use Rattle.sound.specs.Canonical.{after, Takeable}
 use Rattle.sound.specs.Test.{Owes, gone, stays, Cut, stood, moved, Test}
 use Rattle.rules.proofs.Lists.{differ, own-at, zeros-at}
 use Rattle.sound.proofs.Written.{Written, written}

@@ -16,7 +16,7 @@ use Rattle.rules.specs.Changes.{opened, lastOut, takeOut, seatId}
 use Rattle.rules.specs.History.{Opens, Change, taking, seating, Seats, Takes, Accepts, changed, run, Accepted, done, then, Reached}
 use Rattle.rules.specs.Keys.{full}
 use Rattle.sound.specs.Kept.{Kept, Leaves}
-use Rattle.sound.specs.Form.{after, Ids, Form}
+use Rattle.sound.specs.Canonical.{after, Ids, CanonicalTable}
 use Rattle.sound.specs.Test.{Test}
 use Rattle.sound.proofs.Audit.{as-made, audit}
 use Rattle.sound.proofs.Steps.{kept, out-passes, seat-passes, seat-leaves, out-of-seat}
@@ -135,7 +135,7 @@ reach (suc k) T e p =
 pub reached : {T : Table} → Passes T → Reached T
 reached {T} p = reach (T .bare .seats - T .bare .used) T refl p
 
-pub theorem : (T : Table) → Reached T ↔ Form T
+pub theorem : (T : Table) → Reached T ↔ CanonicalTable T
 theorem T = (
   λ r. let p = passes r in record { most = p .most; isMade = audit (T .bare) .0 (p .test); ids = p .ids },
   λ f. reached (record { most = f .most; test = audit (T .bare) .1 (f .isMade); ids = f .ids }),

@@ -11,7 +11,7 @@ use Rattle.rules.specs.Table.{_!_, Bare, Table, parts, runLength, mostSeats, ta
 use Rattle.rules.specs.History.{Id, Reached, Sound}
 use Rattle.rules.proofs.Parts.{All, none, more}
 use Rattle.rules.proofs.Words.{Legal, words-tableOf, tableOf-words, length-words}
-use Rattle.sound.specs.Form.{after, Takeable, Canonical, Ids}
+use Rattle.sound.specs.Canonical.{after, Takeable, Canonical, Ids}
 use Rattle.sound.specs.Test.{Test}
 use Rattle.sound.proofs.Passes.{made-passes}
 use Rattle.sound.proofs.Audit.{R-takeable, as-made, audit}

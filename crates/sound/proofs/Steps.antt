@@ -7,7 +7,7 @@ use lib.Seq.{getD-set-same}
 use Rattle.rules.specs.Table.{Bare, _!_}
 use Rattle.rules.specs.Changes.{out, seat, lastOut}
 use Rattle.sound.specs.Kept.{Kept, Leaves}
-use Rattle.sound.specs.Form.{after, Takeable}
+use Rattle.sound.specs.Canonical.{after, Takeable}
 use Rattle.sound.specs.Test.{Test}
 use Rattle.sound.proofs.Made.{fewer-still, After, after-is, next-leaves, undone}
 use Rattle.sound.proofs.Passes.{made-passes, test-out}

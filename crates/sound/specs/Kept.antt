@@ -6,7 +6,7 @@ use lib.ListN.{length}
 use Rattle.rules.specs.Table.{Bare, _!_}
 
 -- N from 1 to a, and five lists of a words
-pub record Shape (T : Bare) : Type 0 where
+pub record Lengths (T : Bare) : Type 0 where
   pub some : 1 ≤ T .used
   pub most : T .used ≤ T .seats
   pub lenA : length (T .A) ≡ T .seats
@@ -23,7 +23,7 @@ pub record Order (T : Bare) : Type 0 where
 
 -- a seat in use stands in the line, and the line has seats in use
 pub record Kept (T : Bare) : Type 0 where
-  pub shape : Shape T
+  pub shape : Lengths T
   pub order : Order T
   pub seated : (x : ℕ) → x < T .seats → T .A ! x ≡ 0 → (T .K ! x ≡ x) × (T .L ! x < T .used) × (T .W ! (T .L ! x) ≡ x)
   pub line : (q : ℕ) → q < T .used → (T .W ! q < T .seats) × (T .A ! (T .W ! q) ≡ 0) × (T .L ! (T .W ! q) ≡ q)

@@ -2,7 +2,7 @@
 use mathlib.Core.Path.{_≡_}
 use Prim.Native.Nat.{ℕ, _-_, _<_, _≤_, max}
 use Rattle.rules.specs.Table.{Bare, _!_}
-use Rattle.sound.specs.Kept.{Shape, Order}
+use Rattle.sound.specs.Kept.{Lengths, Order}
 
 -- x owes q: x stood at position q. If it left while q was there (A[x] is not 0, nor below q), L keeps q;
 -- else x stood there when q was cut off, and W keeps x, or x stands there now.
@@ -16,7 +16,7 @@ pub data Cut (T : Bare) (p b : ℕ) : Type 0 where
   moved : T .W ! p < T .seats → T .L ! b < p → Owes T (T .W ! p) (T .L ! b) → Cut T p b
 
 pub record Test (T : Bare) : Type 0 where
-  pub shape : Shape T
+  pub shape : Lengths T
   pub order : Order T
   pub ownK : (x : ℕ) → x < T .seats → T .A ! x ≡ 0 → T .K ! x ≡ x
   pub lastK : (i : ℕ) → i < T .seats - T .used → T .K ! (T .R ! i) ≡ T .W ! (T .seats - 1 - i)

@@ -25,7 +25,7 @@ pub extern "C" fn steamacorn_open(table: &mut [u32], a: u32, ids: &[u32], n: &mu
     ensures { λ r. ⌜ Changes (openCall (now (table .entry)) a (now (ids .entry))) (now (n .entry) ∷ []) (r, now (n .exit) ∷ [], now (table .exit)) ⌝ }
 {
     match open_table(table, a, ids) {
-        Opened::Seats(used) => {
+        Opened::Used(used) => {
             *n = used;
             0
         }
@@ -108,7 +108,7 @@ pub extern "C" fn steamacorn_load(table: &mut [u32], record: &[u8], n: &mut u32)
     ensures { λ r. ⌜ Changes (loadCall (now (table .entry)) (now («record» .entry))) (now (n .entry) ∷ []) (r, now (n .exit) ∷ [], now (table .exit)) ⌝ }
 {
     match load(table, record) {
-        Loaded::Seats(used) => {
+        Loaded::Used(used) => {
             *n = used;
             0
         }

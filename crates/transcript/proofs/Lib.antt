@@ -4,3 +4,4 @@ pub mod Saying
 pub mod Tables
 pub mod Turns
 pub mod Opposites
+pub mod KnownLines

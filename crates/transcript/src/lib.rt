@@ -10,7 +10,7 @@ ghost use Rattle.transcript.specs.Transcript.{reopened, respond, replies
 ghost use Rattle.lines.specs.Lines.{linesOf, commandOf};
 ghost use Rattle.rules.specs.Table.{runLength, mostSeats};
 ghost use Rattle.changes.specs.Calls.{changedAnswer, openCall, seatCall, outCall};
-ghost use Rattle.find.specs.Find.{answerOf, findCall};
+ghost use Rattle.find.specs.Find.{lookupAnswer, findCall};
 ghost use Rattle.rules.specs.Answers.{fine};
 use changes::Changed;
 use changes::Opened;
@@ -141,7 +141,7 @@ fn three(v: u32, w: u32, x: u32) -> Reply
 }
 
 fn found(l: Lookup) -> Reply
-    ensures { λ r. ⌜ (replyAnswer r ≡ answerOf l) × (length (printed (replyAnswer r)) ≤ 36) ⌝ }
+    ensures { λ r. ⌜ (replyAnswer r ≡ lookupAnswer l) × (length (printed (replyAnswer r)) ≤ 36) ⌝ }
 {
     match l {
         Lookup::On(b, server, draws) => three(b.0, server, draws),
@@ -162,7 +162,7 @@ fn reopen(t: &mut [u32], len: usize, a: u32, ids: &[u32]) -> Answered
     }
     let n = start(a as usize, PARTS);
     match open_table(&mut t[..n], a, ids) {
-        Opened::Seats(used) => Answered {
+        Opened::Used(used) => Answered {
             reply: Reply::One(used),
             len: n,
         },

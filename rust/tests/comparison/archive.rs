@@ -1,7 +1,7 @@
-//! The archive, compared with the model.
+//! The archive in the library's place.
 use crate::compare::Same;
 use crate::library::{Answer, Library, UNWRITTEN};
-use crate::{changes, damage, edges, lookups, records};
+use crate::{changes, damage, edges, examples, histories, keys, lookups, records};
 use std::sync::mpsc::{self, RecvTimeoutError};
 use std::thread;
 use std::time::Duration;
@@ -112,7 +112,7 @@ fn passes(name: &'static str, compare: fn(&dyn Library) -> Same<u64>, library: &
         Ok(Ok(calls)) => println!("{}: {} calls compared", name, calls),
         Ok(Err(difference)) => panic!("{}: {}", name, difference),
         Err(RecvTimeoutError::Timeout) => panic!("{}: no end within {:?}", name, LIMIT),
-        Err(RecvTimeoutError::Disconnected) => panic!("{}: the model is at fault, as told above", name),
+        Err(RecvTimeoutError::Disconnected) => panic!("{}: broke off, as told above", name),
     }
 }
 
@@ -139,6 +139,34 @@ fn the_archive_records() {
 #[test]
 fn the_archive_edges() {
     passes("edges", edges::compare, &Archive);
+}
+
+#[test]
+fn the_archive_undo() {
+    passes("undo", histories::undo, &Archive);
+}
+
+#[test]
+fn the_archive_histories() {
+    passes("histories, struck", histories::struck, &Archive);
+}
+
+#[test]
+fn the_archive_keys() {
+    passes("keys before and after changes", keys::moved, &Archive);
+    passes("keys by both rules", keys::rules, &Archive);
+    passes("keys, again", keys::again, &Archive);
+}
+
+#[test]
+fn the_archive_saves_and_loads() {
+    passes("saving and loading", records::opposites, &Archive);
+    passes("edges of the record", records::edges, &Archive);
+}
+
+#[test]
+fn the_archive_examples() {
+    passes("examples", examples::compare, &Archive);
 }
 
 #[test]

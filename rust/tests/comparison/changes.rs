@@ -1,5 +1,5 @@
 //! Long random histories: every word after every change, also against the changes made store by store.
-use crate::compare::{Comparison, Same};
+use crate::compare::{Calls, Comparison, Same};
 use crate::library::{Answer, Library};
 use crate::random::Random;
 use steamacorn::model::parts::Parts;

@@ -1,5 +1,5 @@
-//! One call to the library and the same call to the model: the answer, its values, and every lent word and byte, with
-//! guards on both sides of each run.
+//! Calls on lent runs, with guards on both sides of each run: to the library alone, or one to the library and the same
+//! to the model.
 use crate::library::{found, Answer, Library, Model};
 use std::fmt::Debug;
 use steamacorn::model::find::Finder;
@@ -7,10 +7,16 @@ use steamacorn::model::find::Finder;
 const GUARD: usize = 16;
 const GUARD_BYTE: u8 = 0xC3;
 
+/// What a run is made of: words or bytes.
+pub trait Item: Copy + PartialEq + Debug + From<u8> {}
+
+impl Item for u8 {}
+impl Item for u32 {}
+
 /// A run in the midst of guards.
 pub struct Lent<T>(Vec<T>);
 
-impl<T: Copy + PartialEq + Debug + From<u8>> Lent<T> {
+impl<T: Item> Lent<T> {
     pub fn new(run: &[T]) -> Lent<T> {
         let guard = vec![T::from(GUARD_BYTE); GUARD];
         Lent([&guard, run, &guard].concat())
@@ -36,6 +42,95 @@ impl<T: Copy + PartialEq + Debug + From<u8>> Lent<T> {
 /// A comparison ends at the first difference, and tells it.
 pub type Same<T> = Result<T, String>;
 
+/// What was told is what it had to be.
+pub fn same<T: PartialEq + Debug>(what: &str, told: T, expected: T) -> Same<()> {
+    if told == expected {
+        return Ok(());
+    }
+    Err(format!("{}: {:?}, not {:?}", what, told, expected))
+}
+
+/// A run is what it had to be.
+pub fn same_run<T: Item>(what: &str, told: &[T], expected: &[T]) -> Same<()> {
+    same(what, told.len(), expected.len())?;
+    Lent::new(told).holds(expected).map_err(|difference| format!("{}: {}", what, difference))
+}
+
+/// The calls that lend runs; who implements it says what becomes of one.
+pub trait Calls {
+    /// One call, its memory being the table and a second run.
+    fn call<T: Item>(
+        &mut self,
+        name: &str,
+        table: &mut [u32],
+        second: &mut [T],
+        call: impl Fn(&dyn Library, &mut [u32], &mut [T]) -> Answer,
+    ) -> Same<Answer>;
+
+    fn open(&mut self, table: &mut [u32], a: u32, ids: &[u32]) -> Same<Answer> {
+        self.call("open", table, &mut ids.to_vec(), |library, table, ids| library.open(table, a, ids))
+    }
+
+    fn seat(&mut self, table: &mut [u32], id: u32) -> Same<Answer> {
+        self.call::<u8>("seat", table, &mut [], |library, table, _| library.seat(table, id))
+    }
+
+    fn out(&mut self, table: &mut [u32], id: u32) -> Same<Answer> {
+        self.call::<u8>("out", table, &mut [], |library, table, _| library.out(table, id))
+    }
+
+    fn audit(&mut self, table: &[u32]) -> Same<Answer> {
+        self.call::<u8>("audit", &mut table.to_vec(), &mut [], |library, table, _| library.audit(table))
+    }
+
+    fn save(&mut self, table: &[u32], record: &mut [u8]) -> Same<Answer> {
+        self.call("save", &mut table.to_vec(), record, |library, table, record| library.save(table, record))
+    }
+
+    fn load(&mut self, table: &mut [u32], record: &[u8]) -> Same<Answer> {
+        self.call("load", table, &mut record.to_vec(), |library, table, record| library.load(table, record))
+    }
+}
+
+/// The library alone: answers, words and bytes are its own.
+pub struct Alone<'l> {
+    library: &'l dyn Library,
+    pub calls: u64,
+}
+
+impl<'l> Alone<'l> {
+    pub fn new(library: &'l dyn Library) -> Alone<'l> {
+        Alone { library, calls: 0 }
+    }
+
+    pub fn find(&mut self, table: &[u32], keys: &[u64]) -> Same<Vec<Answer>> {
+        self.calls += keys.len() as u64;
+        let mut lent = Lent::new(table);
+        let answers = keys.iter().map(|key| self.library.find(lent.run(), *key)).collect();
+        lent.holds(table).map_err(|difference| format!("find: {}", difference))?;
+        Ok(answers)
+    }
+}
+
+impl Calls for Alone<'_> {
+    fn call<T: Item>(
+        &mut self,
+        name: &str,
+        table: &mut [u32],
+        second: &mut [T],
+        call: impl Fn(&dyn Library, &mut [u32], &mut [T]) -> Answer,
+    ) -> Same<Answer> {
+        self.calls += 1;
+        let (mut lent, mut lent_second) = (Lent::new(table), Lent::new(second));
+        let answer = call(self.library, lent.run(), lent_second.run());
+        table.copy_from_slice(lent.run());
+        second.copy_from_slice(lent_second.run());
+        let whole = lent.holds(table).and_then(|_| lent_second.holds(second));
+        whole.map(|_| answer).map_err(|difference| format!("{}: {}", name, difference))
+    }
+}
+
+/// The library and the model.
 pub struct Comparison<'l> {
     library: &'l dyn Library,
     pub calls: u64,
@@ -44,53 +139,6 @@ pub struct Comparison<'l> {
 impl<'l> Comparison<'l> {
     pub fn new(library: &'l dyn Library) -> Comparison<'l> {
         Comparison { library, calls: 0 }
-    }
-
-    /// One call, its memory being the table and a second run. Both are left as the model leaves them.
-    fn call<T: Copy + PartialEq + Debug + From<u8>>(
-        &mut self,
-        name: &str,
-        table: &mut [u32],
-        second: &mut [T],
-        call: impl Fn(&dyn Library, &mut [u32], &mut [T]) -> Answer,
-    ) -> Same<Answer> {
-        self.calls += 1;
-        let before = table.to_vec();
-        let (mut lent, mut lent_second) = (Lent::new(table), Lent::new(second));
-        let told = call(self.library, lent.run(), lent_second.run());
-        let expected = call(&Model, table, second);
-        let same = if told == expected {
-            lent.holds(table).and_then(|_| lent_second.holds(second))
-        } else {
-            Err(format!("{:?}, not {:?}", told, expected))
-        };
-        same.map(|_| expected).map_err(|difference| {
-            format!("{}: {} (table {:?}, second {:?})", name, difference, shown(&before), shown(second))
-        })
-    }
-
-    pub fn open(&mut self, table: &mut [u32], a: u32, ids: &[u32]) -> Same<Answer> {
-        self.call("open", table, &mut ids.to_vec(), |library, table, ids| library.open(table, a, ids))
-    }
-
-    pub fn seat(&mut self, table: &mut [u32], id: u32) -> Same<Answer> {
-        self.call::<u8>("seat", table, &mut [], |library, table, _| library.seat(table, id))
-    }
-
-    pub fn out(&mut self, table: &mut [u32], id: u32) -> Same<Answer> {
-        self.call::<u8>("out", table, &mut [], |library, table, _| library.out(table, id))
-    }
-
-    pub fn audit(&mut self, table: &[u32]) -> Same<Answer> {
-        self.call::<u8>("audit", &mut table.to_vec(), &mut [], |library, table, _| library.audit(table))
-    }
-
-    pub fn save(&mut self, table: &[u32], record: &mut [u8]) -> Same<Answer> {
-        self.call("save", &mut table.to_vec(), record, |library, table, record| library.save(table, record))
-    }
-
-    pub fn load(&mut self, table: &mut [u32], record: &[u8]) -> Same<Answer> {
-        self.call("load", table, &mut record.to_vec(), |library, table, record| library.load(table, record))
     }
 
     /// Many keys on one table, which the model reads once. `each` is given every answer.
@@ -123,6 +171,31 @@ impl<'l> Comparison<'l> {
         self.save(table, &mut vec![0xEE; 8 + 2 * table.len()])?;
         self.save(table, &mut [0xEE; 5])?;
         Ok(())
+    }
+}
+
+/// The table and the second run are left as the model leaves them.
+impl Calls for Comparison<'_> {
+    fn call<T: Item>(
+        &mut self,
+        name: &str,
+        table: &mut [u32],
+        second: &mut [T],
+        call: impl Fn(&dyn Library, &mut [u32], &mut [T]) -> Answer,
+    ) -> Same<Answer> {
+        self.calls += 1;
+        let before = table.to_vec();
+        let (mut lent, mut lent_second) = (Lent::new(table), Lent::new(second));
+        let told = call(self.library, lent.run(), lent_second.run());
+        let expected = call(&Model, table, second);
+        let same = if told == expected {
+            lent.holds(table).and_then(|_| lent_second.holds(second))
+        } else {
+            Err(format!("{:?}, not {:?}", told, expected))
+        };
+        same.map(|_| expected).map_err(|difference| {
+            format!("{}: {} (table {:?}, second {:?})", name, difference, shown(&before), shown(second))
+        })
     }
 }
 

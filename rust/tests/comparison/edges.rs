@@ -1,5 +1,5 @@
 //! The edges that document 01 names, and the orders of the refusals.
-use crate::compare::{Comparison, Same};
+use crate::compare::{Calls, Comparison, Same};
 use crate::library::Library;
 use steamacorn::model::parts::Parts;
 use steamacorn::{record_bytes, words};

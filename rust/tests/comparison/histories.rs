@@ -1,129 +1,95 @@
-//! The model held to the demands, on random histories.
-use crate::random::Random;
-use steamacorn::model::calls;
-use steamacorn::model::find::{by_arrays, first_of, pick_of, Finder, Found};
-use steamacorn::model::parts::Parts;
-use steamacorn::model::record;
-use steamacorn::model::table::Table;
-use steamacorn::words;
+//! Demand 3 on the words, of the library alone: seating undoes taking out, and a history leaves what is left over of it
+//! after striking.
+use crate::compare::{same, same_run, Alone, Calls, Same};
+use crate::library::{Answer, Library};
+use crate::played::{accepted, id_word, sizes, taken_out, Change, History};
 
-/// Sound tables of many sizes.
-fn tables(seed: u64, count: usize) -> impl Iterator<Item = (Random, Table)> {
-    (0..count).map(move |round| {
-        let mut random = Random::new(seed + 1000 * round as u64);
-        let a = if round % 50 == 49 { 200 } else { 1 + round % 20 };
-        let table = random.table(a);
-        (random, table)
-    })
-}
-
-fn keys(random: &mut Random, count: usize) -> Vec<u64> {
-    (0..count).map(|_| random.number()).collect()
-}
-
-fn find_all(words: &[u32], keys: &[u64]) -> Vec<Found> {
-    let finder = Finder::new(words).expect("legal shape");
-    keys.iter().map(|key| finder.find(*key).expect("sound")).collect()
-}
-
-/// The history that is kept is what the changes, store by store, leave.
-#[test]
-fn the_changes_leave_what_the_history_says() {
-    for round in 0..300 {
-        let mut random = Random::new(round);
-        let a = 1 + random.below(12);
-        let used = 1 + random.below(a);
-        let ids = random.ids(used);
-        let mut table = Table::opened(a as u32, &ids);
-        let mut parts = Parts::opened(a as u32, &ids);
-        for _ in 0..100 {
-            if random.below(2) == 0 {
-                let b = random.one_of(parts.line());
-                if table.take_out(parts.S[b as usize]) == Ok(b) {
-                    parts.take_out(b);
-                }
-            } else {
-                let id = random.word() | 1 << 31;
-                if let Ok(b) = table.seat(id) {
-                    assert_eq!(parts.seat(id), b);
-                }
+/// Every seated server taken out, then the same id seated, and another.
+pub fn undo(library: &dyn Library) -> Same<u64> {
+    let mut own = Alone::new(library);
+    for (mut random, a) in sizes(1, 300) {
+        let history = History::random(&mut own, &mut random, a, a)?;
+        let seated = history.seated();
+        for id in seated.iter().filter(|_| seated.len() >= 2) {
+            for new in [*id, absent(&seated), random.word() | 1 << 31] {
+                undone(&mut own, &history.words, *id, new)?;
             }
-            assert_eq!(table.words(), parts.words());
-            assert_eq!(Table::of_words(&parts.words()).as_ref(), Ok(&table));
         }
     }
+    Ok(own.calls)
 }
 
-/// Demand 3: take any seated server out, then seat any id that is not then seated; all but that id is as before.
-#[test]
-fn seating_undoes_taking_out() {
-    for (mut random, table) in tables(1, 400).filter(|(_, table)| table.used() >= 2) {
-        let before = table.words();
-        for id in seated(&table) {
-            let mut run = before.clone();
-            let b = calls::out(&mut run, id).expect("two servers");
-            let new = random.one_of(&[id, absent(&table)]);
-            assert_eq!(calls::seat(&mut run, new), Ok(b));
-            run[2 + 5 * table.servers.len() + b as usize] = id;
-            assert_eq!(run, before);
+fn absent(seated: &[u32]) -> u32 {
+    (1..).find(|id| !seated.contains(id)).expect("fewer servers than ids")
+}
+
+fn undone(own: &mut Alone, before: &[u32], id: u32, new: u32) -> Same<()> {
+    let mut after = before.to_vec();
+    let left = taken_out(own, &mut after, id)?;
+    let seat = own.seat(&mut after, new).and_then(|answer| accepted("seat", answer, before))?;
+    same("undo: the seat", seat, left)?;
+    let mut expected = before.to_vec();
+    expected[id_word(before, seat)] = new;
+    same_run("undo", &after, &expected)
+}
+
+/// Random accepted histories. They leave sound tables.
+pub fn struck(library: &dyn Library) -> Same<u64> {
+    let mut own = Alone::new(library);
+    for (mut random, a) in sizes(2, 300) {
+        let changes = random.below(6 * a);
+        let history = History::random(&mut own, &mut random, a, changes)?;
+        let made = reseated(&mut own, &history, &strike(&history.changes)?)?;
+        same_run("what is left over", history.bare(), made.bare())?;
+        last_given(&history)?;
+        same("audit", own.audit(&history.words)?, Answer::fine(&[]))?;
+    }
+    Ok(own.calls)
+}
+
+/// The changes without each seating and the removal that it answers: the latest that is not yet answered.
+fn strike(changes: &[Change]) -> Same<Vec<Change>> {
+    let mut left: Vec<Change> = Vec::new();
+    for change in changes {
+        let latest = left.iter().rposition(|change| matches!(change, Change::Taking { .. }));
+        match (change, latest) {
+            (Change::Seating { seat, .. }, Some(latest)) => {
+                same("strike: the seat", *seat, left.remove(latest).seat())?;
+            }
+            _ => left.push(*change),
         }
     }
+    Ok(left)
 }
 
-fn seated(table: &Table) -> Vec<u32> {
-    table.servers.iter().copied().filter(|id| *id != 0).collect()
-}
-
-/// An id that has no seat.
-fn absent(table: &Table) -> u32 {
-    (1..).find(|id| table.seat_of(*id).is_none()).expect("fewer servers than ids")
-}
-
-#[test]
-fn both_rules_agree_and_draws_are_bounded() {
-    for (mut random, table) in tables(2, 400) {
-        let run = table.words();
-        let parts = Parts::of_words(&run).expect("legal shape");
-        let keys = keys(&mut random, 200);
-        for (key, by_sets) in keys.iter().zip(find_all(&run, &keys)) {
-            let arrays = by_arrays(&parts, first_of(*key, parts.a), |b, n| pick_of(*key, b, n));
-            assert_eq!(arrays, Ok(by_sets));
-            assert!(1 <= by_sets.draws && by_sets.draws <= 1 + table.removals.len() as u32);
-            assert_eq!(by_sets.server, table.servers[by_sets.seat as usize]);
+/// The same opening and these changes of seats, with other ids in the seats that they fill.
+fn reseated(own: &mut Alone, history: &History, changes: &[Change]) -> Same<History> {
+    let mut made = History::opened(own, history.seats(), &history.ids)?;
+    for (place, change) in changes.iter().enumerate() {
+        match *change {
+            Change::Taking { seat, .. } => {
+                let id = made.words[id_word(&made.words, seat)];
+                same("left over", made.take_out(own, id)?, Change::Taking { id, seat })?;
+            }
+            Change::Seating { seat, .. } => {
+                let id = 1_000_000 + place as u32;
+                same("left over", made.seat(own, id)?, Change::Seating { id, seat })?;
+            }
         }
     }
+    Ok(made)
 }
 
-/// Demand 3: taking out moves only the keys of its seat, and seating moves keys only to its seat.
-#[test]
-fn only_the_keys_of_a_changed_seat_move() {
-    for (mut random, table) in tables(3, 400).filter(|(_, table)| table.used() >= 2) {
-        let run = table.words();
-        let keys = keys(&mut random, 300);
-        let seats = |run: &[u32]| find_all(run, &keys).into_iter().map(|found| found.seat).collect::<Vec<_>>();
-        let before = seats(&run);
-        let mut less = run.clone();
-        let b = calls::out(&mut less, random.one_of(&seated(&table))).expect("two servers");
-        let after = seats(&less);
-        assert!(before.iter().zip(&after).all(|(old, new)| if *old == b { *new != b } else { old == new }));
-        let mut more = run.clone();
-        if let Ok(b) = calls::seat(&mut more, absent(&table)) {
-            assert!(before.iter().zip(seats(&more)).all(|(old, new)| *old == new || new == b));
+/// Each seat in use holds the id last given to it; opening gave seat x id x of the list. The others hold none.
+fn last_given(history: &History) -> Same<()> {
+    let parts = history.parts()?;
+    let mut given = history.ids.clone();
+    given.resize(history.seats(), 0);
+    for change in &history.changes {
+        if let Change::Seating { id, seat } = change {
+            given[*seat as usize] = *id;
         }
     }
-}
-
-#[test]
-fn saving_and_loading_are_opposites() {
-    for (mut random, table) in tables(4, 400) {
-        let run = table.words();
-        let bytes = record::of_table(&table);
-        assert_eq!(bytes.len(), steamacorn::record_bytes(table.servers.len(), table.used() as usize));
-        let mut saved = vec![0; bytes.len()];
-        assert_eq!(calls::save(&run, &mut saved), Ok(bytes.len()));
-        assert_eq!(saved, bytes);
-        let mut loaded = random.garbage(words(table.servers.len()));
-        assert_eq!(calls::load(&mut loaded, &bytes), Ok(table.used()));
-        assert_eq!(loaded, run);
-    }
+    let held: Vec<u32> = given.iter().zip(&parts.A).map(|(id, out)| if *out == 0 { *id } else { 0 }).collect();
+    same_run("the id last given", &parts.S, &held)
 }

@@ -1,11 +1,8 @@
 //! The comparisons themselves: the model passes them, and a model with a known fault does not.
 use crate::compare::Same;
-use crate::library::{found, Answer, Library, Model, UNWRITTEN};
-use crate::{changes, damage, edges, lookups, records};
-use steamacorn::model::calls;
-use steamacorn::model::find::{first_of, pick_of, Found};
-use steamacorn::model::numbers::{DAMAGED, FORM, ROOM};
-use steamacorn::model::parts::Parts;
+use crate::faults::*;
+use crate::library::{Library, Model};
+use crate::{changes, damage, edges, examples, histories, keys, lookups, records};
 
 fn passes(name: &str, compare: fn(&dyn Library) -> Same<u64>) {
     match compare(&Model) {
@@ -39,102 +36,64 @@ fn the_model_passes_edges() {
     passes("edges", edges::compare);
 }
 
-/// The model, but for a call that has a fault.
-struct Faulty {
-    seat: fn(&mut [u32], u32) -> Answer,
-    find: fn(&mut [u32], u64) -> Answer,
-    save: fn(&mut [u32], &mut [u8]) -> Answer,
-    load: fn(&mut [u32], &mut [u8]) -> Answer,
+#[test]
+fn the_model_passes_histories() {
+    passes("undo", histories::undo);
+    passes("histories, struck", histories::struck);
 }
 
-const FAULTLESS: Faulty = Faulty {
-    seat: |table, id| Model.seat(table, id),
-    find: |table, key| Model.find(table, key),
-    save: |table, record| Model.save(table, record),
-    load: |table, record| Model.load(table, record),
-};
-
-impl Library for Faulty {
-    fn open(&self, table: &mut [u32], a: u32, ids: &mut [u32]) -> Answer {
-        Model.open(table, a, ids)
-    }
-
-    fn seat(&self, table: &mut [u32], id: u32) -> Answer {
-        (self.seat)(table, id)
-    }
-
-    fn out(&self, table: &mut [u32], id: u32) -> Answer {
-        Model.out(table, id)
-    }
-
-    fn find(&self, table: &mut [u32], key: u64) -> Answer {
-        (self.find)(table, key)
-    }
-
-    fn audit(&self, table: &mut [u32]) -> Answer {
-        Model.audit(table)
-    }
-
-    fn save(&self, table: &mut [u32], record: &mut [u8]) -> Answer {
-        (self.save)(table, record)
-    }
-
-    fn load(&self, table: &mut [u32], record: &mut [u8]) -> Answer {
-        (self.load)(table, record)
-    }
+#[test]
+fn the_model_passes_keys() {
+    passes("keys before and after changes", keys::moved);
+    passes("keys by both rules", keys::rules);
+    passes("keys, again", keys::again);
 }
 
-/// The comparison tells a difference, in this call.
-fn caught(compare: fn(&dyn Library) -> Same<u64>, faulty: Faulty, call: &str) {
+#[test]
+fn the_model_saves_and_loads() {
+    passes("saving and loading", records::opposites);
+    passes("edges of the record", records::edges);
+}
+
+#[test]
+fn the_model_passes_examples() {
+    passes("examples", examples::compare);
+}
+
+/// The comparison tells a difference, which begins so.
+fn caught(compare: fn(&dyn Library) -> Same<u64>, faulty: Faulty, what: &str) {
     let difference = compare(&faulty).expect_err("a difference");
     println!("{}", difference);
-    assert!(difference.starts_with(call));
-}
-
-/// Seating without putting L[W[N]] back.
-fn forgetful_seat(table: &mut [u32], id: u32) -> Answer {
-    let before = table.to_vec();
-    let answer = Model.seat(table, id);
-    if answer.number == 0 {
-        let (a, used) = (before[0] as usize, before[1] as usize);
-        let cut_off = before[2 + 2 * a + used] as usize;
-        let place = 2 + 3 * a + cut_off;
-        table[place] = before[place];
-    }
-    answer
+    assert!(difference.starts_with(what));
 }
 
 #[test]
 fn a_forgotten_position_is_caught() {
-    caught(changes::compare, Faulty { seat: forgetful_seat, ..FAULTLESS }, "seat: place");
+    caught(changes::compare, FIRMWARE, "seat: place");
+    caught(histories::undo, FIRMWARE, "undo: place");
+    caught(histories::struck, FIRMWARE, "what is left over: place");
+    caught(examples::compare, FIRMWARE, "E8: place");
 }
 
-/// Stopping the K walk when A[h] = A[b]. Where that would never leave b it gives up.
-fn early_find(table: &mut [u32], key: u64) -> Answer {
-    let parts = match Parts::of_words(table) {
-        Some(parts) => parts,
-        None => return Model.find(table, key),
-    };
-    let mut b = first_of(key, parts.a);
-    let mut draws = 1;
-    while parts.A[b as usize] != 0 && draws < 5000 {
-        let bound = parts.A[b as usize];
-        let mut h = pick_of(key, b, bound);
-        let mut followed = 0;
-        while h < parts.a && parts.A[h as usize] > bound && followed < parts.a {
-            h = parts.K[h as usize];
-            followed += 1;
-        }
-        if h >= parts.a {
-            return Answer::refused(DAMAGED);
-        }
-        b = h;
-        draws += 1;
-    }
-    found(match parts.S[b as usize] {
-        0 => Err(DAMAGED),
-        server => Ok(Found { seat: b, server, draws }),
-    })
+#[test]
+fn a_change_that_does_nothing_is_caught() {
+    let idle = || Faulty { out: idle_out, ..FAULTLESS };
+    caught(histories::undo, idle(), "out: the seat's server");
+    caught(histories::struck, idle(), "out: the seat's server");
+    caught(keys::moved, idle(), "out: the seat's server");
+    caught(keys::again, idle(), "out: the seat's server");
+}
+
+#[test]
+fn another_seat_is_caught() {
+    caught(histories::undo, Faulty { seat: lowest_seat, ..FAULTLESS }, "undo: the seat");
+    caught(histories::struck, Faulty { seat: lowest_seat, ..FAULTLESS }, "strike: the seat");
+    caught(keys::again, Faulty { seat: lowest_seat, ..FAULTLESS }, "key ");
+}
+
+#[test]
+fn another_id_is_caught() {
+    caught(histories::struck, Faulty { seat: exchanging_seat, ..FAULTLESS }, "the id last given: place");
 }
 
 #[test]
@@ -144,33 +103,52 @@ fn a_walk_that_stops_early_is_caught() {
 }
 
 #[test]
+fn a_find_that_moves_other_keys_is_caught() {
+    caught(keys::moved, Faulty { find: modulo_find, ..FAULTLESS }, "key ");
+}
+
+/// It moves no other keys: the rules alone tell it.
+#[test]
+fn todays_line_is_caught() {
+    caught(keys::rules, Faulty { find: todays_find, ..FAULTLESS }, "by sets");
+    caught(examples::compare, Faulty { find: todays_find, ..FAULTLESS }, "E4 to E7");
+}
+
+#[test]
+fn draws_from_nowhere_are_caught() {
+    caught(keys::rules, Faulty { find: one_draw, ..FAULTLESS }, "by sets");
+    caught(examples::compare, Faulty { find: one_draw, ..FAULTLESS }, "E4 to E7");
+}
+
+#[test]
 fn a_value_beside_a_refusal_is_caught() {
-    let seat = |table: &mut [u32], id| {
-        let answer = Model.seat(table, id);
-        let values = answer.values.map(|value| if value == UNWRITTEN { 0 } else { value });
-        Answer { values, ..answer }
-    };
-    caught(edges::compare, Faulty { seat, ..FAULTLESS }, "seat: Answer");
+    caught(edges::compare, Faulty { seat: value_beside_refusal, ..FAULTLESS }, "seat: Answer");
 }
 
 #[test]
 fn bytes_written_beside_a_refusal_are_caught() {
-    let save = |table: &mut [u32], record: &mut [u8]| {
-        let answer = Model.save(table, record);
-        if answer.number == ROOM {
-            record.iter_mut().take(2).for_each(|byte| *byte = 0x41);
-        }
-        answer
-    };
-    caught(edges::compare, Faulty { save, ..FAULTLESS }, "save: place");
+    caught(edges::compare, Faulty { save: bytes_beside_refusal, ..FAULTLESS }, "save: place");
+    caught(examples::compare, Faulty { save: bytes_beside_refusal, ..FAULTLESS }, "save: place");
 }
 
-/// Loading that does not ask whether an id occurs twice: it takes two seats that are in use by one id.
+#[test]
+fn another_record_is_caught() {
+    caught(examples::compare, Faulty { save: little_endian, ..FAULTLESS }, "save: place");
+}
+
 #[test]
 fn a_record_taken_too_easily_is_caught() {
-    let load = |table: &mut [u32], record: &mut [u8]| match calls::load(table, record) {
-        Err(FORM) if record.len() == 22 && record[10..14] == record[18..] => Answer::fine(&[2]),
-        result => Answer::of(result),
-    };
-    caught(records::compare, Faulty { load, ..FAULTLESS }, "load: Answer");
+    caught(records::compare, Faulty { load: easy_load, ..FAULTLESS }, "load: Answer");
+    caught(records::edges, Faulty { load: easy_load, ..FAULTLESS }, "a server twice");
+}
+
+#[test]
+fn another_order_of_refusals_is_caught() {
+    caught(records::edges, Faulty { load: hasty_load, ..FAULTLESS }, "the head alone");
+}
+
+#[test]
+fn a_load_that_is_not_the_opposite_is_caught() {
+    caught(records::opposites, Faulty { load: orderless_load, ..FAULTLESS }, "loaded: place");
+    caught(examples::compare, Faulty { load: orderless_load, ..FAULTLESS }, "load: place");
 }

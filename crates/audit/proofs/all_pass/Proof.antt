@@ -36,6 +36,7 @@ all-pass-spec =
     μ-loop
     (λ c. (search needs, pass-none _))
     (λ c. search needs)
+    (λ c. search needs)
     (λ c κs. search needs)
     (λ c κs. search needs)
     (λ c. search needs)

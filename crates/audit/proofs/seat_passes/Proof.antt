@@ -13,7 +13,7 @@ returns-2 : tie.Need-returns-2
 returns-2 c = λ s. c .if3 .taken (omega (arith, s .used (omega arith)))
 
 returns-3 : tie.Need-returns-3
-returns-3 c = seat-used _ _ (c .owes .result) (omega arith) (omega arith) (omega arith) (rw (c .before .first-position .ensures) at (c .owes .ensures))
+returns-3 c = seat-used _ _ (c .owes .result) (omega arith) (omega arith) (omega arith) (rw (c .before .before .before .before .before .before .before .before .before .before .pre .2) at (c .owes .ensures))
 
 returns-4 : tie.Need-returns-4
 returns-4 c = λ s. c .if4 .taken (omega (arith, s .out (omega arith)))
@@ -29,7 +29,7 @@ returns-7 c = λ s. let at = s .out (omega arith) .3 in c .if7 .taken (cc)
 
 returns-8 : tie.Need-returns-8
 returns-8 c =
-    seat-out _ _ (c .owes2 .result) (omega arith) (omega arith, omega arith, omega arith, (cc)) (rw (c .before .first-position2 .ensures) at (c .owes2 .ensures))
+    seat-out _ _ (c .owes2 .result) (omega arith) (omega arith, omega arith, omega arith, (cc)) (rw (c .before .before .before .before .before .before .before .before .before .before .before .before .pre .2) at (c .owes2 .ensures))
 
 pub seat-passes-spec : {M : Type 1} → statement M
 seat-passes-spec =
@@ -42,7 +42,6 @@ seat-passes-spec =
     (λ c κs. search needs)
     returns-2
     (λ c κs. search needs)
-    (λ c κs. search needs)
     returns-3
     returns-4
     returns-5
@@ -51,6 +50,5 @@ seat-passes-spec =
     (λ c. search needs)
     (λ c κs. search needs)
     returns-7
-    (λ c κs. search needs)
     (λ c κs. search needs)
     returns-8)

@@ -1,4 +1,4 @@
--- `audit::stands` meets its contract: it compares the words that `Stands` names.
+-- `audit::stands` meets its contract: it compares the words that `LineHas` names.
 -- Assumes nothing.
 use native.Mathlib.Omega.{arith}
 use borrow.Author.Needs.{needs}

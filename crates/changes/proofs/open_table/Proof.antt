@@ -35,30 +35,33 @@ returns-5 c =
 
 returns-6 : tie.Need-returns-6
 returns-6 c =
-    let f = c .before .before in
+    let z = c .before .before in
+    let f = z .before in
     let n = f .before in
     let s = n .before in
-    open-zero _ _ _ (s .before .before .before .if1 .left) (s .before .before .if2 .left) (sized s) (n .if4 .left) (f .if5 .left) (sym (c .before .occurs-in .ensures) ∙ c .if6 .taken)
+    open-zero _ _ _ (s .before .before .before .if1 .left) (s .before .before .if2 .left) (sized s) (n .if4 .left) (f .if5 .left) (sym (z .occurs-in .ensures) ∙ c .if6 .taken)
 
 returns-7 : tie.Need-returns-7
 returns-7 c =
-    let z = c .before .before in
-    let f = z .before .before in
+    let t = c .before .before in
+    let z = t .before in
+    let f = z .before in
     let n = f .before in
     let s = n .before in
-    open-twice _ _ _ (s .before .before .before .if1 .left) (s .before .before .if2 .left) (sized s) (n .if4 .left) (f .if5 .left) (sym (z .before .occurs-in .ensures) ∙ z .if6 .left)
-    (sym (c .before .repeats-in .ensures) ∙ c .if7 .taken)
+    open-twice _ _ _ (s .before .before .before .if1 .left) (s .before .before .if2 .left) (sized s) (n .if4 .left) (f .if5 .left) (sym (z .occurs-in .ensures) ∙ c .before .if6 .left)
+    (sym (t .repeats-in .ensures) ∙ c .if7 .taken)
 
 returns-8 : tie.Need-returns-8
 returns-8 c =
-    let t = c .before .before .before .before in
-    let z = t .before .before in
-    let f = z .before .before in
+    let e = c .before .before .before .before in
+    let t = e .before .before in
+    let z = t .before in
+    let f = z .before in
     let n = f .before in
     let s = n .before in
-    ap (λ (w : List ℕ). done (length (c .before .before .before .before .before .before .before .before .before .before .before .before .before .before .before .before .args .ids .now) ∷ []) w) (c .before .before .lay-out .ensures)
-    ∙ open-done _ _ _ (s .before .before .before .if1 .left) (s .before .before .if2 .left) (sized s) (n .if4 .left) (f .if5 .left) (sym (z .before .occurs-in .ensures) ∙ z .if6 .left)
-    (sym (t .before .repeats-in .ensures) ∙ t .if7 .left)
+    ap (λ (w : List ℕ). done (length (s .before .before .before .before .before .before .args .ids .now) ∷ []) w) (c .before .before .lay-out .ensures)
+    ∙ open-done _ _ _ (s .before .before .before .if1 .left) (s .before .before .if2 .left) (sized s) (n .if4 .left) (f .if5 .left) (sym (z .occurs-in .ensures) ∙ e .before .if6 .left)
+    (sym (t .repeats-in .ensures) ∙ e .if7 .left)
 
 pub open-table-spec : {M : Type 1} → statement M
 open-table-spec =
@@ -71,8 +74,8 @@ open-table-spec =
     returns-4
     returns-5
     (λ c κs. search needs)
-    returns-6
     (λ c κs. search needs)
+    returns-6
     returns-7
     (λ c κs. search needs)
     (λ c. search needs)

@@ -2,7 +2,7 @@
 -- Assumes nothing.
 use borrow.Author.Needs.{needs}
 use mathlib.Core.Path.{sym, ap, _∙_}
-use Rattle.audit.specs.Audit.{answerOf}
+use Rattle.audit.specs.Audit.{auditedAnswer}
 use Rattle.audit.proofs.Told.{fine-sound}
 use Rattle.changes.proofs.Told.{seat-refused}
 use Rattle.changes.proofs.seat_server.Statement.{statement}
@@ -11,12 +11,12 @@ use Rattle.changes.proofs.seat_server.Tie as tie
 seat-sound-requires : tie.Need-seat-sound-requires
 seat-sound-requires c κs =
     let t = c .before in
-    fine-sound _ (sym (ap answerOf (t .enum-told .given .1)) ∙ t .before .before .audit-table .ensures)
+    fine-sound _ (sym (ap auditedAnswer (t .enum-told .given .1)) ∙ t .before .before .audit-table .ensures)
 
 returns-2 : tie.Need-returns-2
 returns-2 c =
     let k = c .before in
-    seat-refused _ _ (k .why .given .0 .0) (sym (ap answerOf (k .why .given .1)) ∙ k .before .before .audit-table .ensures)
+    seat-refused _ _ (k .why .given .0 .0) (sym (ap auditedAnswer (k .why .given .1)) ∙ k .before .before .audit-table .ensures)
 
 pub seat-server-spec : {M : Type 1} → statement M
 seat-server-spec =

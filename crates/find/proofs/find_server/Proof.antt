@@ -24,21 +24,21 @@ returns c = rw (illegal _ (sym (c .before .before .size-of .ensures) ∙ c .enum
 
 look-up-requires : tie.Need-look-up-requires
 look-up-requires c κs =
-    let p = c .before .before .before in
+    let p = c .before .before in
     let t = told (p .before) in
     let low = mod-lt (output 1 (p .before .before .before .before .before .before .args .key)) (t .some) in
     record { alike = omega arith; most = omega arith; below = omega arith }
 
 -- what the draws lead to
 led : (f : tie.After-look-up) (r : Drawn) → f .look-up .result ≡ r →
-    let s = f .before .before .before .before .before .before .before .before .before .before in
-    findCall (s .args .t .now) (s .args .key) ≡ served (tableFor (f .before .before .before .before .before .before .a .given .0 .0) (s .args .t .now) .S) (lookedOf r)
+    let s = f .before .before .before .before .before .before .before .before .before in
+    findCall (s .args .t .now) (s .args .key) ≡ served (tableFor (f .before .before .before .before .before .a .given .0 .0) (s .args .t .now) .S) (lookedOf r)
 unfolding findCall
 led f r e =
-    let p = f .before .before .before .before in
-    let s = f .before .before .before .before .before .before .before .before .before .before in
+    let p = f .before .before .before in
+    let s = f .before .before .before .before .before .before .before .before .before in
     let t = told (p .before) in
-    rw (t .isLegal, t .first, ← e, f .look-up .ensures .rule, f .before .before .lend .ensures .0, f .before .lend2 .ensures .0, f .before .before .before .first-seat .ensures, p .pick .ensures) refl
+    rw (t .isLegal, t .first, ← e, f .look-up .ensures .rule, f .before .before .lend .ensures .0, f .before .lend2 .ensures .0, p .first-seat .ensures) refl
 
 returns-2 : tie.Need-returns-2
 returns-2 c = sym (led (c .before .before) _ (c .enum-told2 .given .1))
@@ -46,7 +46,7 @@ returns-2 c = sym (led (c .before .before) _ (c .enum-told2 .given .1))
 get-s-requires : tie.Need-get-s-requires
 get-s-requires c κs =
     let f = c .before .before .before in
-    let t = told (f .before .before .before .before .before) in
+    let t = told (f .before .before .before .before) in
     let w = rw (c .before .b .given .1) at (f .look-up .ensures .within) in
     (t .shape, omega arith)
 
@@ -70,9 +70,8 @@ find-server-spec =
     returns
     (λ c. let t = told c in omega arith)
     (λ c κs. told c .some)
-    (λ c κs. search needs)
+    (λ c κs. let t = told (c .before) in omega arith)
     (λ c κs. let t = told (c .before .before) in omega arith)
-    (λ c κs. let t = told (c .before .before .before) in omega arith)
     look-up-requires
     (λ c. search needs)
     (λ c. search needs)

@@ -38,15 +38,15 @@ returns c =
 
 -- a turn's redraw
 drew : (f : tie.After-follow Inv-loop μ-loop) →
-    let l = f .before .before .before .before .before .before .before in
+    let l = f .before .before .before .before .before in
     let s = l .before .before .before in
     redraw (s .args .A .now) (s .args .K .now) (pickOf (s .args .key)) (l .loop .b .0) ≡ walkOf (f .follow .result)
-drew f = ap (walk _ _ _ _) (sym (f .before .first-seat .ensures ∙ f .before .before .pick .ensures)) ∙ sym (f .follow .ensures)
+drew f = ap (walk _ _ _ _) (sym (f .before .pick .ensures)) ∙ sym (f .follow .ensures)
 
 returns-2 : tie.Need-returns-2 Inv-loop μ-loop
 returns-2 c =
     let f = c .before .before in
-    let l = f .before .before .before .before .before .before .before in
+    let l = f .before .before .before .before .before in
     let s = l .before .before .before in
     record {
       rule = sym (lookup-lost (s .args .A .now) (s .args .K .now) (pickOf (s .args .key)) _ _ (search needs) (drew f ∙ ap walkOf (c .enum-told .given .1))) ∙ l .loop .inv .2;
@@ -55,18 +55,18 @@ returns-2 c =
 
 -- the seat that it leads to
 falls : (c : tie.After-known-told Inv-loop μ-loop) →
-    let l = c .before .before .before .before .before .before .before .before .before .before in
+    let l = c .before .before .before .before .before .before .before .before in
     let A = l .before .before .before .args .A .now in
     (c .before .next .given .0 .0 .0 < length A) × (A ! c .before .next .given .0 .0 .0 < A ! l .loop .b .0)
 falls c =
     let f = c .before .before .before in
-    let s = f .before .before .before .before .before .before .before .before .before .before in
+    let s = f .before .before .before .before .before .before .before .before in
     redraw-falls (s .args .A .now) (s .args .K .now) (pickOf (s .args .key)) _ _ (drew f ∙ ap walkOf (c .before .next .given .1))
 
 loop-again : tie.Need-loop-again Inv-loop μ-loop
 loop-again c =
     let f = c .before .before .before in
-    let l = f .before .before .before .before .before .before .before in
+    let l = f .before .before .before .before .before in
     let s = l .before .before .before in
     let h = falls c in (
       h .0,
@@ -85,9 +85,6 @@ look-up-spec =
     (λ c. search needs)
     (λ c. search needs)
     returns
-    (λ c. search needs)
-    (λ c. search needs)
-    (λ c κs. search needs)
     (λ c κs. search needs)
     (λ c κs. search needs)
     (λ c. search needs)

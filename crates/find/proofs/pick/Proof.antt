@@ -1,13 +1,13 @@
--- `find::pick` meets its contract: a remainder by m is below m, so it fits where m does.
+-- `find::pick` meets its contract: the draw is the hash, and its remainder the pick.
 -- Assumes nothing.
 use borrow.Author.Needs.{needs}
-use native.Mathlib.Omega.{arith}
-use native.Mathlib.Nat.{mod-lt}
+use mathlib.Core.Path.{ap, _∙_}
+use Prim.Native.Nat.{ℕ, _%_}
 use Rattle.find.proofs.pick.Statement.{statement}
 use Rattle.find.proofs.pick.Tie as tie
 
-cast-t7 : tie.Need-cast-t7
-cast-t7 c = omega (arith, mod-lt (c .draw .result) (c .before .pre))
+returns : tie.Need-returns
+returns c = c .remainder .ensures ∙ ap (λ (x : ℕ). x % c .before .before .before .args .m) (c .before .draw .ensures)
 
 pub pick-spec : {M : Type 1} → statement M
-pick-spec = tie.close (tie.spec (λ c κs. search needs) (λ c. search needs) cast-t7 (λ c. cc))
+pick-spec = tie.close (tie.spec (λ c. search needs) (λ c. search needs) (λ c κs. search needs) (λ c κs. search needs) returns)

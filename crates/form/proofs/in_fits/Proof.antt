@@ -10,7 +10,7 @@ use Rattle.form.proofs.in_fits.Tie as tie
 returns-3 : tie.Need-returns-3
 returns-3 c =
     let id = c .before in
-    let b = id .before .before in
+    let b = id .before .before .before in
     let marked = b .before in
     record {
       mark = decides-true _ (marked .if1 .taken) (marked .before .has-mark .ensures);
@@ -28,7 +28,6 @@ in-fits-spec =
     (λ c κs. search needs)
     (λ c. search needs)
     (λ c κs. search needs)
-    (λ c. search needs)
     (λ c. search needs)
     (λ c. search needs)
     (λ c κs. search needs)

@@ -27,7 +27,7 @@ room : (c : tie.Then1 Inv-loop μ-loop) → inAt (c .before .before .before .bef
 room c =
     let l = c .before .before .before in
     let s = l .before .before .before in
-    omega (arith, s .pre .1, rank-below (s .args .gone .now) (s .args .a) (l .loop .b) (omega arith) (c .if1 .taken))
+    omega (arith, s .pre .2, rank-below (s .args .gone .now) (s .args .a) (l .loop .b) (omega arith) (c .if1 .taken))
 
 returns : tie.Need-returns Inv-loop μ-loop
 returns c =
@@ -71,6 +71,7 @@ ins-fit-spec =
     (λ c. (search needs, refl, λ b h. absurd (omega arith)))
     (λ c. search needs)
     (λ c κs. omega (arith, room c))
+    (λ c. search needs)
     (λ c κs. omega (arith, room (c .before)))
     (λ c. omega (arith, room (c .before .before .before)))
     returns

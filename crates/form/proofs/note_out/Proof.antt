@@ -13,14 +13,14 @@ use Rattle.form.proofs.note_out.Tie as tie
 
 returns : tie.Need-returns
 returns c =
-    let b = c .before in
+    let b = c .before .before in
     let o = b .before .before .before .before in
     let s = o .before .before .before in
     λ f. omega (arith, rw (o .out-at .ensures) at (b .number-at .ensures), leaves-below (s .args .s .now) (s .args .a) (s .args .m) (s .pre .0) (s .args .i) (s .pre .1) (f .leaves))
 
 returns-2 : tie.Need-returns-2
 returns-2 c =
-    let b = c .before .before .before in
+    let b = c .before .before .before .before in
     let o = b .before .before .before .before in
     let s = o .before .before .before in
     λ f. noted-out (s .pre .2) (b .number-at .result) (omega arith) (c .if3 .taken)
@@ -28,7 +28,7 @@ returns-2 c =
 
 returns-3 : tie.Need-returns-3
 returns-3 c =
-    let b = c .before .before .before in
+    let b = c .before .before .before .before in
     let marked = b .before in
     let o = marked .before .before .before in
     let s = o .before .before .before in

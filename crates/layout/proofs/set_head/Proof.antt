@@ -1,10 +1,8 @@
 -- `layout::set_head` meets its contract: it makes the two stores.
 -- Assumes nothing.
-use native.Mathlib.Omega.{arith}
 use borrow.Author.Needs.{needs}
-use lib.ListN.{length-set}
 use Rattle.layout.proofs.set_head.Statement.{statement}
 use Rattle.layout.proofs.set_head.Tie as tie
 
 pub set-head-spec : {M : Type 1} → statement M
-set-head-spec = tie.close (tie.spec (λ c. search needs) (λ c. search needs) (λ c. search needs) (λ c. simp length-set (omega arith)) (λ c. search needs) (λ c. search needs))
+set-head-spec = tie.close (tie.spec (λ c. search needs) (λ c κs. search needs) (λ c. search needs) (λ c κs. search needs) (λ c. search needs) (λ c. cc))

@@ -5,7 +5,7 @@ use borrow.Author.Needs.{needs}
 use mathlib.Core.Path.{_≡_, sym, _∙_}
 use lib.ListN.{length}
 use Rattle.rules.specs.Table.{runLength}
-use Rattle.form.specs.declared.Form.the-variants.{Of}
+use Rattle.form.specs.declared.Recorded.the-variants.{Of}
 use Rattle.form.specs.Form.{formOf}
 use Rattle.record.proofs.Loads.{load-form, good, load-size, load-done}
 use Rattle.record.proofs.load.Statement.{statement}

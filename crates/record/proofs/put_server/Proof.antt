@@ -17,7 +17,7 @@ returns c =
     let o = p .before .before in
     let s = c .before .before .before .before .before .before .before .before .before in
     let k = no-server (s .args .s .now) (tableFor (s .args .a) (s .args .t .now) .bare .A) (s .args .m) (s .args .b .0) (s .args .j) (s .pre .isRank) (λ z. o .if1 .taken (o .before .get-a .ensures ∙ z)) in
-    (k .0, p .set-s .ensures ∙ ap (set (s .args .t .now) (base (s .args .a) 5 + s .args .b .0)) (k .1))
+    (k .0, p .put-s .ensures ∙ ap (set (s .args .t .now) (base (s .args .a) 5 + s .args .b .0)) (k .1))
 
 -- the seat is in use
 used : (c : tie.Else1)
@@ -41,7 +41,7 @@ returns-2 c =
     let o = id .before .before in
     let s = o .before .before .before .before .before in
     let k = used o in
-    (k .0, p .set-s2 .ensures ∙ ap (set (s .args .t .now) (base (s .args .a) 5 + s .args .b .0)) (id .server-at .ensures ∙ k .1))
+    (k .0, p .put-s2 .ensures ∙ ap (set (s .args .t .now) (base (s .args .a) 5 + s .args .b .0)) (id .server-at .ensures ∙ k .1))
 
 pub put-server-spec : {M : Type 1} → statement M
 put-server-spec =

@@ -3,7 +3,7 @@
 use Prim.Native.Nat.{ℕ, _<_}
 use native.Mathlib.Nat.{mod-lt}
 use Rattle.rules.specs.Keys.{hash₁, hash, firstOf, pickOf}
-use Rattle.lookups.specs.EveryKey.{Draws}
+use Rattle.lookups.specs.EveryTable.{Draws}
 
 pub first-below : (k a : ℕ) → 0 < a → firstOf k a < a
 first-below k a h = mod-lt (hash₁ k) h

@@ -35,7 +35,7 @@ pub record Ids (a : ℕ) (A S : List ℕ) : Type 0 where
   pub some : (x : ℕ) → x < a → A ! x ≡ 0 → Id (S ! x)
   pub apart : (x y : ℕ) → x < a → y < a → S ! x ≢ 0 → S ! x ≡ S ! y → x ≡ y
 
-pub record Form (T : Table) : Type 0 where
+pub record CanonicalTable (T : Table) : Type 0 where
   pub most : T .bare .seats ≤ mostSeats
   pub isMade : Canonical (T .bare)
   pub ids : Ids (T .bare .seats) (T .bare .A) (T .S)

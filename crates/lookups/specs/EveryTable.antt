@@ -11,7 +11,7 @@ Draws pick = (b n : ℕ) → 0 < n → pick b n < n
 
 -- P holds of every table, of what the array rule says there of a key, and of what the set rule finds on any opening and any accepted
 -- changes that leave the table
-abbrev pub EveryKey : (Table → Looked → Found → Type 0) → Type 0
-EveryKey P =
+abbrev pub EveryTable : (Table → Looked → Found → Type 0) → Type 0
+EveryTable P =
     (T : Table) (r : Reached T) (pick : ℕ → ℕ → ℕ) (first : ℕ) → Draws pick → first < T .bare .seats
     → P T (arrayRule (T .bare) pick first) (setRule (T .bare) (movesOf (r .a) (r .ids) (r .history)) pick first)
