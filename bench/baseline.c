@@ -1,8 +1,13 @@
 /*
  * The same rules in C, with no check that a rule does not name: no bound of an index. The signatures are the library's, so that both are called alike.
+ * It is built by more than one compiler and linked once for each: -DBY=gcc makes CALL(find) gcc_find.
  */
 #include <stddef.h>
 #include <stdint.h>
+
+#define JOINED(by, call) by##_##call
+#define NAMED(by, call) JOINED(by, call)
+#define CALL(call) NAMED(BY, call)
 
 enum { SIZE = 1, COUNT, ID, TWICE, DAMAGED, FULL, ABSENT, LAST, ROOM, FORM, MOST_SEATS = 2048 };
 
@@ -25,8 +30,8 @@ static int legal(const uint32_t *table, size_t words)
     return words >= 2 && table[0] >= 1 && table[0] <= MOST_SEATS && words == 2 + 6 * (size_t)table[0];
 }
 
-uint32_t baseline_find(const uint32_t *restrict table, size_t words, uint64_t key, uint32_t *restrict seat,
-                       uint32_t *restrict server, uint32_t *restrict draws)
+uint32_t CALL(find)(const uint32_t *restrict table, size_t words, uint64_t key, uint32_t *restrict seat,
+                    uint32_t *restrict server, uint32_t *restrict draws)
 {
     if (!legal(table, words))
         return SIZE;
@@ -55,8 +60,8 @@ uint32_t baseline_find(const uint32_t *restrict table, size_t words, uint64_t ke
 }
 
 /* A key's way followed as if every table were sound: no SIZE, no DAMAGED. */
-uint32_t baseline_bare_find(const uint32_t *restrict table, size_t words, uint64_t key, uint32_t *restrict seat,
-                            uint32_t *restrict server, uint32_t *restrict draws)
+uint32_t CALL(bare_find)(const uint32_t *restrict table, size_t words, uint64_t key, uint32_t *restrict seat,
+                         uint32_t *restrict server, uint32_t *restrict draws)
 {
     PARTS(const, table);
     uint32_t b = (uint32_t)(output(1, key) % a), taken = 1, bound;
@@ -119,7 +124,7 @@ static inline int removal_passes(const uint32_t *table, uint32_t i)
     return W[p] == b || (W[p] < a && L[b] < p && stood(table, W[p], L[b]));
 }
 
-uint32_t baseline_audit(const uint32_t *table, size_t words)
+uint32_t CALL(audit)(const uint32_t *table, size_t words)
 {
     if (!legal(table, words))
         return SIZE;
@@ -145,8 +150,8 @@ static void take_out_seat(uint32_t *table, uint32_t b)
     S[b] = 0;
 }
 
-uint32_t baseline_open(uint32_t *restrict table, size_t words, uint32_t a, const uint32_t *restrict ids, size_t count,
-                       uint32_t *restrict n)
+uint32_t CALL(open)(uint32_t *restrict table, size_t words, uint32_t a, const uint32_t *restrict ids, size_t count,
+                    uint32_t *restrict n)
 {
     if (a < 1 || a > MOST_SEATS || words != 2 + 6 * (size_t)a)
         return SIZE;
@@ -170,7 +175,7 @@ uint32_t baseline_open(uint32_t *restrict table, size_t words, uint32_t a, const
 }
 
 /* The stores alone, on a sound table that has the id. */
-uint32_t baseline_bare_out(uint32_t *restrict table, size_t words, uint32_t id, uint32_t *restrict seat)
+uint32_t CALL(bare_out)(uint32_t *restrict table, size_t words, uint32_t id, uint32_t *restrict seat)
 {
     PARTS(, table);
     uint32_t b = 0;
@@ -183,7 +188,7 @@ uint32_t baseline_bare_out(uint32_t *restrict table, size_t words, uint32_t id, 
 }
 
 /* The stores alone, on a sound table that is not full. */
-uint32_t baseline_bare_seat(uint32_t *restrict table, size_t words, uint32_t id, uint32_t *restrict seat)
+uint32_t CALL(bare_seat)(uint32_t *restrict table, size_t words, uint32_t id, uint32_t *restrict seat)
 {
     PARTS(, table);
     uint32_t b = R[a - N - 1];
@@ -199,28 +204,28 @@ uint32_t baseline_bare_seat(uint32_t *restrict table, size_t words, uint32_t id,
     return 0;
 }
 
-uint32_t baseline_out(uint32_t *restrict table, size_t words, uint32_t id, uint32_t *restrict seat)
+uint32_t CALL(out)(uint32_t *restrict table, size_t words, uint32_t id, uint32_t *restrict seat)
 {
-    uint32_t refusal = baseline_audit(table, words);
+    uint32_t refusal = CALL(audit)(table, words);
     if (refusal != 0)
         return refusal;
     if (id == 0)
         return ID;
     if (!occurs(table + 2 + 5 * (size_t)table[0], table[0], id))
         return ABSENT;
-    return table[1] == 1 ? (uint32_t)LAST : baseline_bare_out(table, words, id, seat);
+    return table[1] == 1 ? (uint32_t)LAST : CALL(bare_out)(table, words, id, seat);
 }
 
-uint32_t baseline_seat(uint32_t *restrict table, size_t words, uint32_t id, uint32_t *restrict seat)
+uint32_t CALL(seat)(uint32_t *restrict table, size_t words, uint32_t id, uint32_t *restrict seat)
 {
-    uint32_t refusal = baseline_audit(table, words);
+    uint32_t refusal = CALL(audit)(table, words);
     if (refusal != 0)
         return refusal;
     if (id == 0)
         return ID;
     if (occurs(table + 2 + 5 * (size_t)table[0], table[0], id))
         return TWICE;
-    return table[1] == table[0] ? (uint32_t)FULL : baseline_bare_seat(table, words, id, seat);
+    return table[1] == table[0] ? (uint32_t)FULL : CALL(bare_seat)(table, words, id, seat);
 }
 
 static uint8_t *write_two(uint8_t *to, uint32_t number)
@@ -242,10 +247,10 @@ static uint32_t read_four(const uint8_t *from)
 
 enum { HEAD = 0x4153, OUT = 0x4F55, IN = 0x494E };
 
-uint32_t baseline_save(const uint32_t *restrict table, size_t words, uint8_t *restrict record, size_t room,
-                       size_t *restrict bytes)
+uint32_t CALL(save)(const uint32_t *restrict table, size_t words, uint8_t *restrict record, size_t room,
+                    size_t *restrict bytes)
 {
-    uint32_t refusal = baseline_audit(table, words);
+    uint32_t refusal = CALL(audit)(table, words);
     if (refusal != 0)
         return refusal;
     PARTS(const, table);
@@ -289,8 +294,8 @@ static int has_form(const uint8_t *record, size_t bytes)
     return !repeats(ids, N);
 }
 
-uint32_t baseline_load(uint32_t *restrict table, size_t words, const uint8_t *restrict record, size_t bytes,
-                       uint32_t *restrict n)
+uint32_t CALL(load)(uint32_t *restrict table, size_t words, const uint8_t *restrict record, size_t bytes,
+                    uint32_t *restrict n)
 {
     if (!has_form(record, bytes))
         return FORM;

@@ -1,4 +1,4 @@
-//! The three that are compared, called alike.
+//! Those that are compared, called alike.
 use crate::safe;
 use steamacorn::ffi;
 
@@ -15,22 +15,21 @@ pub trait Calls {
 /// libsteamacorn.a
 pub struct Library;
 
-/// The same rules in C: baseline.c
-pub struct InC;
+/// The same rules in C, baseline.c, as gcc makes it
+pub struct InGcc;
+
+/// The same text as clang makes it
+pub struct InClang;
 
 /// The same rules in safe Rust
 pub struct InRust;
 
-extern "C" {
-    fn baseline_find(t: *const u32, words: usize, key: u64, seat: *mut u32, server: *mut u32, draws: *mut u32) -> u32;
-    fn baseline_bare_find(t: *const u32, n: usize, key: u64, seat: *mut u32, server: *mut u32, draws: *mut u32) -> u32;
-    fn baseline_out(table: *mut u32, words: usize, id: u32, seat: *mut u32) -> u32;
-    fn baseline_seat(table: *mut u32, words: usize, id: u32, seat: *mut u32) -> u32;
-    fn baseline_bare_out(table: *mut u32, words: usize, id: u32, seat: *mut u32) -> u32;
-    fn baseline_bare_seat(table: *mut u32, words: usize, id: u32, seat: *mut u32) -> u32;
-    fn baseline_audit(table: *const u32, words: usize) -> u32;
-    fn baseline_save(table: *const u32, words: usize, record: *mut u8, room: usize, bytes: *mut usize) -> u32;
-    fn baseline_load(table: *mut u32, words: usize, record: *const u8, bytes: usize, n: *mut u32) -> u32;
+/// What C has beside the calls.
+pub trait Bare {
+    /// A lookup that tests nothing: a damaged table can hold it for ever.
+    fn bare_find(table: &[u32], key: u64) -> (u32, u32, u32);
+    /// A removal and a seating that look at nothing: the stores alone, of a table that is believed to be sound.
+    fn bare_out_and_seat(table: &mut [u32], id: u32);
 }
 
 fn fine(number: u32) {
@@ -88,7 +87,65 @@ over_pointers!(
     ffi::steamacorn_load
 );
 
-over_pointers!(InC, baseline_find, baseline_out, baseline_seat, baseline_audit, baseline_save, baseline_load);
+/// A compiler's baseline.c: its functions, by its names for them.
+macro_rules! baseline {
+    ($who:ty, $find:ident, $bare_find:ident, $out:ident, $seat:ident, $bare_out:ident, $bare_seat:ident, $audit:ident, $save:ident, $load:ident) => {
+        extern "C" {
+            fn $find(t: *const u32, words: usize, key: u64, seat: *mut u32, server: *mut u32, draws: *mut u32) -> u32;
+            fn $bare_find(t: *const u32, n: usize, key: u64, seat: *mut u32, server: *mut u32, draws: *mut u32) -> u32;
+            fn $out(table: *mut u32, words: usize, id: u32, seat: *mut u32) -> u32;
+            fn $seat(table: *mut u32, words: usize, id: u32, seat: *mut u32) -> u32;
+            fn $bare_out(table: *mut u32, words: usize, id: u32, seat: *mut u32) -> u32;
+            fn $bare_seat(table: *mut u32, words: usize, id: u32, seat: *mut u32) -> u32;
+            fn $audit(table: *const u32, words: usize) -> u32;
+            fn $save(table: *const u32, words: usize, record: *mut u8, room: usize, bytes: *mut usize) -> u32;
+            fn $load(table: *mut u32, words: usize, record: *const u8, bytes: usize, n: *mut u32) -> u32;
+        }
+
+        over_pointers!($who, $find, $out, $seat, $audit, $save, $load);
+
+        impl Bare for $who {
+            fn bare_find(table: &[u32], key: u64) -> (u32, u32, u32) {
+                let (mut seat, mut server, mut draws) = (0, 0, 0);
+                fine(unsafe { $bare_find(table.as_ptr(), table.len(), key, &mut seat, &mut server, &mut draws) });
+                (seat, server, draws)
+            }
+
+            fn bare_out_and_seat(table: &mut [u32], id: u32) {
+                let (mut left, mut got) = (0, 0);
+                fine(unsafe { $bare_out(table.as_mut_ptr(), table.len(), id, &mut left) });
+                fine(unsafe { $bare_seat(table.as_mut_ptr(), table.len(), id, &mut got) });
+                assert_eq!(left, got);
+            }
+        }
+    };
+}
+
+baseline!(
+    InGcc,
+    gcc_find,
+    gcc_bare_find,
+    gcc_out,
+    gcc_seat,
+    gcc_bare_out,
+    gcc_bare_seat,
+    gcc_audit,
+    gcc_save,
+    gcc_load
+);
+
+baseline!(
+    InClang,
+    clang_find,
+    clang_bare_find,
+    clang_out,
+    clang_seat,
+    clang_bare_out,
+    clang_bare_seat,
+    clang_audit,
+    clang_save,
+    clang_load
+);
 
 impl Calls for InRust {
     fn find(table: &[u32], key: u64) -> (u32, u32, u32) {
@@ -114,20 +171,4 @@ impl Calls for InRust {
     fn load(table: &mut [u32], record: &[u8]) -> u32 {
         safe::load(table, record).expect("accepted")
     }
-}
-
-/// A lookup in C that tests nothing: a damaged table can hold it for ever.
-pub fn bare_find(table: &[u32], key: u64) -> (u32, u32, u32) {
-    let (mut seat, mut server, mut draws) = (0, 0, 0);
-    fine(unsafe { baseline_bare_find(table.as_ptr(), table.len(), key, &mut seat, &mut server, &mut draws) });
-    (seat, server, draws)
-}
-
-/// A change in C that looks at nothing: the stores alone, of a table that is believed to be sound.
-pub fn bare_out_and_seat(table: &mut [u32], id: u32) -> u32 {
-    let (mut left, mut got) = (0, 0);
-    fine(unsafe { baseline_bare_out(table.as_mut_ptr(), table.len(), id, &mut left) });
-    fine(unsafe { baseline_bare_seat(table.as_mut_ptr(), table.len(), id, &mut got) });
-    assert_eq!(left, got);
-    got
 }

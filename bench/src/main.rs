@@ -5,15 +5,20 @@ mod measure;
 mod safe;
 
 use alternatives::{Anchor, Balancer, Hrw, Jump, Maglev, Ring};
-use calls::{bare_find, bare_out_and_seat, Calls, InC, InRust, Library};
+use calls::{Bare, Calls, InClang, InGcc, InRust, Library};
 use measure::{side_by_side, time};
 use safe::output;
 use std::fmt::Write;
+use std::rc::Rc;
 use std::time::Duration;
 
 const SEATS: [u32; 3] = [64, 512, 2048];
 const FIND_OUT: [u32; 3] = [10, 50, 90];
-const ROW: Duration = Duration::from_millis(1500);
+
+/// So few keys, again and again, that a processor learns the way of each by heart.
+const HOT: u32 = 1 << 10;
+/// So many that it cannot: the keys of a busy box.
+const MANY: u32 = 1 << 20;
 
 /// What a candidate works on: all begin with the same.
 #[derive(Clone, PartialEq)]
@@ -22,13 +27,17 @@ struct State {
     loaded: Vec<u32>,
     record: Vec<u8>,
     seated: Vec<u32>,
-    keys: Vec<u64>,
+    keys: Rc<[u64]>,
     turn: usize,
+}
+
+fn some_keys(count: u32, which: u64) -> Rc<[u64]> {
+    (0..u64::from(count)).map(|key| output(key, which)).collect()
 }
 
 impl State {
     /// A table of a seats, with so many of 100 taken out in no particular order.
-    fn new(a: u32, out_of_100: u32) -> State {
+    fn new(a: u32, out_of_100: u32, keys: u32) -> State {
         let mut order: Vec<u32> = (1..=a).collect();
         order.sort_by_key(|id| output(u64::from(*id), 1));
         let mut table = vec![0; steamacorn::words(a as usize)];
@@ -38,8 +47,14 @@ impl State {
         Library::audit(&table);
         let mut record = vec![0; steamacorn::record_bytes(a as usize, seated.len())];
         InRust::save(&table, &mut record);
-        let keys = (0..1024).map(|key| output(key, 2)).collect();
-        State { loaded: vec![0; table.len()], table, record, seated: seated.to_vec(), keys, turn: 0 }
+        State {
+            loaded: vec![0; table.len()],
+            table,
+            record,
+            seated: seated.to_vec(),
+            keys: some_keys(keys, 2),
+            turn: 0,
+        }
     }
 
     /// Another id that is seated.
@@ -49,20 +64,20 @@ impl State {
     }
 }
 
-/// A call in the table: what the three do with their states, and how many calls that is.
+/// A call in the table: what the four do with their states, and how many calls that is.
 struct Row {
     name: &'static str,
     calls: u32,
-    units: [fn(&mut State); 3],
+    units: [fn(&mut State); 4],
 }
 
-/// `row!("name", calls, C, state => ..)`: C is each of the three in turn.
+/// `row!("name", calls, C, state => ..)`: C is each of the four in turn.
 macro_rules! row {
-    ($name:literal, $calls:literal, $c:ident, $state:ident => $body:expr) => {{
+    ($name:literal, $calls:expr, $c:ident, $state:ident => $body:expr) => {{
         fn unit<$c: Calls>($state: &mut State) {
             $body
         }
-        Row { name: $name, calls: $calls, units: [unit::<Library>, unit::<InC>, unit::<InRust>] }
+        Row { name: $name, calls: $calls, units: [unit::<Library>, unit::<InGcc>, unit::<InClang>, unit::<InRust>] }
     }};
 }
 
@@ -75,8 +90,8 @@ fn look_up_all(state: &mut State, find: impl Fn(&[u32], u64) -> (u32, u32, u32))
     state.turn = total as usize;
 }
 
-fn find_row() -> Row {
-    row!("find", 1024, C, state => look_up_all(state, C::find))
+fn find_row(keys: u32) -> Row {
+    row!("find", keys, C, state => look_up_all(state, C::find))
 }
 
 fn call_rows() -> Vec<Row> {
@@ -92,57 +107,89 @@ fn call_rows() -> Vec<Row> {
     ]
 }
 
-/// Nanoseconds of the library, of C and of Rust.
-fn measured(row: &Row, state: &State) -> [f64; 3] {
-    let mut states = [state.clone(), state.clone(), state.clone()];
-    let [library, c, rust] = &mut states;
-    row.units.iter().zip([&mut *library, &mut *c, &mut *rust]).for_each(|(unit, state)| unit(state));
-    assert!(library == c && c == rust, "{}: the three differ", row.name);
-    let [in_library, in_c, in_rust] = row.units;
-    let times =
-        side_by_side(&mut [&mut || in_library(library), &mut || in_c(c), &mut || in_rust(rust)], row.calls, ROW);
-    [times[0], times[1], times[2]]
+/// Nanoseconds of a call.
+#[derive(Clone, Copy)]
+struct Times {
+    library: f64,
+    gcc: f64,
+    clang: f64,
+    rust: f64,
 }
 
-/// A line of a table: three times and two ratios.
-fn line(what: &str, times: [f64; 3]) -> String {
-    let [library, c, rust] = times;
-    let ratios = format!("{:.2} | {:.2}", library / c, library / rust);
-    format!("| {} | {} | {} | {} | {} |", what, time(library), time(c), time(rust), ratios)
-}
-
-/// Lines of the plot's file: what, a, who, nanoseconds
-fn numbers(csv: &mut String, what: &str, a: u32, times: [f64; 3]) {
-    for (who, nanoseconds) in ["library", "C", "Rust"].iter().zip(times) {
-        writeln!(csv, "{},{},{},{:.2}", what, a, who, nanoseconds).expect("a string takes all");
+impl Times {
+    /// C is the better of its two compilers.
+    fn c(&self) -> f64 {
+        self.gcc.min(self.clang)
     }
 }
 
-const COLUMNS: &str = "library | C | Rust | library to C | library to Rust |";
+fn measured(row: &Row, state: &State, budget: Duration) -> Times {
+    let mut states = [(); 4].map(|_| state.clone());
+    row.units.iter().zip(&mut states).for_each(|(unit, state)| unit(state));
+    assert!(states.iter().all(|state| *state == states[0]), "{}: the four differ", row.name);
+    let mut turns: Vec<_> = row.units.iter().zip(&mut states).map(|(unit, state)| move || unit(state)).collect();
+    let mut turns: Vec<_> = turns.iter_mut().map(|turn| turn as &mut dyn FnMut()).collect();
+    let times = side_by_side(&mut turns, row.calls, budget);
+    Times { library: times[0], gcc: times[1], clang: times[2], rust: times[3] }
+}
 
-fn finds(csv: &mut String, growth: &mut Vec<String>) {
-    println!("## find\n");
-    println!("| a | out of 100 | {}\n|---|---|---|---|---|---|---|", COLUMNS);
+/// What is told beside the tables, as they grow.
+struct Report {
+    /// How long a row may take.
+    row: Duration,
+    /// The plot's file: what, a, who, number
+    csv: String,
+    growth: Vec<String>,
+    /// The rows in which gcc's C is the better, and the others.
+    better: [u32; 2],
+}
+
+const COLUMNS: &str =
+    "library | C, gcc | C, clang | Rust | library to C | library to Rust |\n|---|---|---|---|---|---|---|---|";
+
+impl Report {
+    fn number(&mut self, what: &str, a: u32, who: &str, number: f64) {
+        writeln!(self.csv, "{},{},{},{:.2}", what, a, who, number).expect("a string takes all");
+    }
+
+    /// A line of a table: four times and two ratios.
+    fn line(&mut self, cells: &str, what: &str, a: u32, times: Times) {
+        let ratios = format!("{:.2} | {:.2}", times.library / times.c(), times.library / times.rust);
+        let [library, gcc, clang, rust] = [times.library, times.gcc, times.clang, times.rust].map(time);
+        println!("| {} | {} | {} | {} | {} | {} |", cells, library, gcc, clang, rust, ratios);
+        self.number(what, a, "library", times.library);
+        self.number(what, a, "C", times.c());
+        self.number(what, a, "Rust", times.rust);
+        self.better[usize::from(times.clang < times.gcc)] += 1;
+    }
+}
+
+/// The table of find with so many keys, `said` so in words. In the plot's file a row is called `what` and the seats out of 100.
+fn finds(report: &mut Report, keys: u32, said: &str, what: &str, budget: Duration) {
+    println!("| a | out of 100 | {}", COLUMNS);
     for out_of_100 in FIND_OUT {
         let mut by_size = Vec::new();
         for a in SEATS {
-            let times = measured(&find_row(), &State::new(a, out_of_100));
-            println!("{}", line(&format!("{} | {}", a, out_of_100), times));
-            numbers(csv, &format!("find {}", out_of_100), a, times);
-            by_size.push(times[0]);
+            let times = measured(&find_row(keys), &State::new(a, out_of_100, keys), budget);
+            report.line(&format!("{} | {}", a, out_of_100), &format!("{} {}", what, out_of_100), a, times);
+            by_size.push(times.library);
         }
-        growth.push(grown(&format!("find, {} of 100 out", out_of_100), &by_size));
+        report.growth.push(grown(&format!("find, {} keys, {} of 100 out", said, out_of_100), &by_size));
     }
     println!(
         "\nThe library to C that tests nothing, neither SIZE nor DAMAGED, and that a damaged table can hold for ever:"
     );
     for out_of_100 in FIND_OUT {
         let ratios = SEATS.map(|a| {
-            let (mut state, mut bare) = (State::new(a, out_of_100), State::new(a, out_of_100));
-            let mut units: [&mut dyn FnMut(); 2] =
-                [&mut || look_up_all(&mut state, Library::find), &mut || look_up_all(&mut bare, bare_find)];
-            let times = side_by_side(&mut units, 1024, ROW / 3);
-            format!("{:.2}", times[0] / times[1])
+            let state = State::new(a, out_of_100, keys);
+            let [mut library, mut gcc, mut clang] = [(); 3].map(|_| state.clone());
+            let units: &mut [&mut dyn FnMut()] = &mut [
+                &mut || look_up_all(&mut library, Library::find),
+                &mut || look_up_all(&mut gcc, InGcc::bare_find),
+                &mut || look_up_all(&mut clang, InClang::bare_find),
+            ];
+            let times = side_by_side(units, keys, budget / 2);
+            format!("{:.2}", times[0] / times[1].min(times[2]))
         });
         println!("- {} of 100 out, a = 64, 512, 2048: {}", out_of_100, ratios.join(", "));
     }
@@ -153,28 +200,33 @@ fn grown(what: &str, by_size: &[f64]) -> String {
     format!("| {} |{}", what, times.concat())
 }
 
-fn calls_on_tables(csv: &mut String, growth: &mut Vec<String>) {
+fn calls_on_tables(report: &mut Report) {
     println!("\n## The other calls, 10 of 100 seats out\n");
-    println!("| call | a | {}\n|---|---|---|---|---|---|---|", COLUMNS);
+    println!("| call | a | {}", COLUMNS);
     for row in call_rows() {
         let mut by_size = Vec::new();
         for a in SEATS {
-            let times = measured(&row, &State::new(a, 10));
-            println!("{}", line(&format!("{} | {}", row.name, a), times));
-            numbers(csv, row.name, a, times);
-            by_size.push(times[0]);
+            let times = measured(&row, &State::new(a, 10, HOT), report.row);
+            report.line(&format!("{} | {}", row.name, a), row.name, a, times);
+            by_size.push(times.library);
         }
-        growth.push(grown(row.name, &by_size));
+        report.growth.push(grown(row.name, &by_size));
     }
     println!("\nA change whose table is believed to be sound, its stores alone, in C:");
     for a in SEATS {
-        let mut state = State::new(a, 10);
-        let mut unit = || {
-            let id = state.next_id();
-            bare_out_and_seat(&mut state.table, id);
-        };
-        let times = side_by_side(&mut [&mut unit], 2, ROW / 5);
-        println!("- a = {}: {}", a, time(times[0]));
+        let [mut gcc, mut clang] = [(); 2].map(|_| State::new(a, 10, HOT));
+        let units: &mut [&mut dyn FnMut()] = &mut [
+            &mut || {
+                let id = gcc.next_id();
+                InGcc::bare_out_and_seat(&mut gcc.table, id);
+            },
+            &mut || {
+                let id = clang.next_id();
+                InClang::bare_out_and_seat(&mut clang.table, id);
+            },
+        ];
+        let times = side_by_side(units, 2, report.row / 4);
+        println!("- a = {}: {}", a, time(times[0].min(times[1])));
     }
 }
 
@@ -205,7 +257,20 @@ fn moves(balancer: &mut dyn Balancer) -> (usize, usize) {
     (moved, needless)
 }
 
-fn alternatives(csv: &mut String) {
+/// A lookup of each of these keys, a part of them at a time, and then from the first again.
+fn found(balancer: &dyn Balancer, keys: &[u64], budget: Duration) -> f64 {
+    let mut parts = keys.chunks_exact(HOT as usize).cycle();
+    let mut sum = 0;
+    let mut find = || {
+        let part = parts.next().expect("one part or more");
+        sum = part.iter().map(|key| balancer.find(*key)).fold(sum, u32::wrapping_add);
+    };
+    let times = side_by_side(&mut [&mut find], HOT, budget);
+    assert_ne!(sum, 0);
+    times[0]
+}
+
+fn alternatives(report: &mut Report) {
     let ids: Vec<u32> = (1..=SERVERS).collect();
     let mut list: Vec<(&str, Box<dyn Balancer>)> = vec![
         ("AnchorHash, the library, 1,100 seats", Box::new(Anchor::new(ANCHOR, &ids))),
@@ -220,39 +285,42 @@ fn alternatives(csv: &mut String) {
         2 * CHANGED,
         CHANGED
     );
-    println!("| | find | a change | keys moved | of them needlessly |\n|---|---|---|---|---|");
+    println!("| | find, 1,024 keys | find, 2^20 keys | a change | keys moved | of them needlessly |\n|---|---|---|---|---|---|");
     for (name, balancer) in &mut list {
         let (moved, needless) = moves(balancer.as_mut());
-        let keys: Vec<u64> = (0..256).map(|key| output(key, 5)).collect();
-        let mut sum = 0;
-        let mut find = || sum = keys.iter().map(|key| balancer.find(*key)).fold(sum, u32::wrapping_add);
-        let found = side_by_side(&mut [&mut find], 256, ROW)[0];
-        assert_ne!(sum, 0);
+        let [hot, many] = [HOT, MANY].map(|keys| found(balancer.as_ref(), &some_keys(keys, 5), report.row));
         let mut id = 0;
         let mut change = || {
             id = id % SERVERS + 1;
             balancer.out(id);
             balancer.seat(id);
         };
-        let changed = side_by_side(&mut [&mut change], 2, ROW)[0];
-        println!("| {} | {} | {} | {} | {} |", name, time(found), time(changed), moved, needless);
+        let changed = side_by_side(&mut [&mut change], 2, report.row)[0];
+        println!("| {} | {} | {} | {} | {} | {} |", name, time(hot), time(many), time(changed), moved, needless);
         let short = name.split(',').next().expect("a name");
-        for (what, number) in [("alternative find", found), ("alternative change", changed)] {
-            writeln!(csv, "{},{},{},{:.2}", what, SERVERS, short, number).expect("a string takes all");
-        }
-        writeln!(csv, "alternative needless,{},{},{}", SERVERS, short, needless).expect("a string takes all");
+        report.number("alternative find", SERVERS, short, many);
+        report.number("alternative change", SERVERS, short, changed);
+        report.number("alternative needless", SERVERS, short, needless as f64);
     }
 }
 
 fn main() {
-    let path = std::env::args().nth(1).expect("usage: bench CSV-FILE");
-    let mut csv = String::from("what,a,who,number\n");
-    let mut growth = Vec::new();
-    finds(&mut csv, &mut growth);
-    calls_on_tables(&mut csv, &mut growth);
+    let usage = "usage: bench CSV-FILE MILLISECONDS-A-ROW";
+    let mut words = std::env::args().skip(1);
+    let path = words.next().expect(usage);
+    let row = words.next().and_then(|word| word.parse().ok()).map(Duration::from_millis).expect(usage);
+    let mut report = Report { row, csv: String::from("what,a,who,number\n"), growth: Vec::new(), better: [0, 0] };
+    println!("## find, 2^20 keys in turn\n");
+    println!("So many that a processor cannot learn the way of each: what a busy box sees.\n");
+    finds(&mut report, MANY, "2^20", "find", 2 * row);
+    println!("\n## find, 1,024 keys again and again\n");
+    println!("So few that it learns their branches by heart.\n");
+    finds(&mut report, HOT, "1,024", "hot find", row);
+    calls_on_tables(&mut report);
+    println!("\nOf the rows above C was quicker by gcc in {}, and by clang in {}.", report.better[0], report.better[1]);
     println!("\n## How the library's times grow with a\n");
     println!("| call | from 64 to 512 seats, 8 times as many | from 512 to 2,048, 4 times as many |\n|---|---|---|");
-    growth.iter().for_each(|line| println!("{}", line));
-    alternatives(&mut csv);
-    std::fs::write(path, csv).expect("the file of the numbers");
+    report.growth.iter().for_each(|line| println!("{}", line));
+    alternatives(&mut report);
+    std::fs::write(path, report.csv).expect("the file of the numbers");
 }

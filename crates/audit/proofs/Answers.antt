@@ -1,23 +1,21 @@
 -- The audit's answer, by what is known of the run.
--- Assumes nothing.
 use mathlib.Core.Path.{_≡_, refl, sym, subst}
 use mathlib.Core.Bool.{true, false}
 use mathlib.Core.List.{List, []}
-use Prim.Native.Nat.{ℕ, _<_, _≤_, _^_}
-use native.Mathlib.Omega.{arith}
-use lib.ListN.{length}
+use Prim.Native.Nat.{ℕ, _<_, _^_}
 use Rattle.rules.specs.Table.{_!_, tableFor, legal}
 use Rattle.rules.specs.History.{Sound}
 use Rattle.rules.specs.Ids.{repeats}
 use Rattle.rules.specs.Answers.{fine, refused}
 use Rattle.rules.specs.declared.Refusal.the-variants.{Size, Damaged}
-use Rattle.rules.proofs.Words.{Legal, is-legal}
-use Rattle.parts.specs.Shape.{sizeOf, Shape}
+use Rattle.rules.specs.Runs.{Legal}
+use Rattle.rules.proofs.Words.{is-legal}
+use Rattle.parts.specs.Shape.{sizeOf}
 use Rattle.parts.specs.declared.Size.the-variants.{Is}
-use Rattle.parts.proofs.Sized.{legal-seats, shaped}
+use Rattle.parts.proofs.Sized.{told-seats}
 use Rattle.sound.proofs.Sound.{sound?}
 use Rattle.promises.proofs.Decided.{true-or-false, yes-true, no-false}
-use Rattle.audit.specs.Pass.{Counted, AllPass}
+use Rattle.audit.specs.Pass.{HeadPasses, Counted, AllPass}
 use Rattle.audit.proofs.Exact.{Pass, pass-sound, sound-pass}
 use Rattle.audit.specs.Audit.{isSound, auditCall}
 
@@ -45,37 +43,27 @@ module _ (w : List ℕ) where
 
 -- the same, by what the code has seen of a run for a seats
 module _ (w : List ℕ) (a : ℕ) (size : sizeOf w ≡ Is a) where
-  is-a : w ! 0 ≡ a
-  is-a = legal-seats w a size .1
+  isLegal : legal w ≡ true
+  isLegal = told-seats w a size .0
 
-  known : Legal w
-  known = is-legal w (legal-seats w a size .0)
+  pub known : Legal w a
+  known = told-seats w a size .1
 
-  pub long : 1 < length w
-  long = omega (arith, known .some, known .size)
+  pub counted : (n : ℕ) → n ≡ w ! 1 → HeadPasses w a → Counted w a n
+  counted n e h = record { shape = known .shape; isN = sym e; some = rw e (h .some); most = rw e (h .most) }
 
-  pub shape : Shape w a
-  shape = subst (λ (n : ℕ). Shape w n) is-a (shaped w (legal-seats w a size .0))
+  refuse : (Pass w a → ⊥) → refused Damaged ≡ auditCall w
+  refuse n = audit-damaged w isLegal (λ s. n (subst (Pass w) (known .first) (sound-pass w (is-legal w isLegal) s)))
 
-  pub counted : (n : ℕ) → n ≡ w ! 1 → 1 ≤ n → n ≤ a → Counted w a n
-  counted n e some most = record { shape = shape; isN = sym e; some = some; most = most }
-
-  refuse : (Pass w → ⊥) → refused Damaged ≡ auditCall w
-  refuse n = audit-damaged w (legal-seats w a size .0) (λ s. n (sound-pass w known s))
-
-  pub none-used : w ! 1 < 1 → refused Damaged ≡ auditCall w
-  none-used h = refuse (λ p. omega (arith, p .some))
-
-  pub more-used : a < w ! 1 → refused Damaged ≡ auditCall w
-  more-used h = refuse (λ p. omega (arith, p .most, is-a))
+  pub head-fails : (HeadPasses w a → ⊥) → refused Damaged ≡ auditCall w
+  head-fails n = refuse (λ p. n (p .head))
 
   pub one-fails : (AllPass (tableFor a w) a → ⊥) → refused Damaged ≡ auditCall w
-  one-fails n = refuse (λ p. n (subst (λ (n : ℕ). AllPass (tableFor n w) n) is-a (p .all)))
+  one-fails n = refuse (λ p. n (p .all))
 
   pub id-twice : repeats (tableFor a w .S) ≡ true → refused Damaged ≡ auditCall w
-  id-twice r = refuse (λ p. true-or-false (repeats (tableFor a w .S)) r (subst (λ (n : ℕ). repeats (tableFor n w .S) ≡ false) is-a (p .once)))
+  id-twice r = refuse (λ p. true-or-false (repeats (tableFor a w .S)) r (p .once))
 
-  pub all-well : {n : ℕ} → ((i : ℕ) → w ! i < 2 ^ 32) → Counted w a n → AllPass (tableFor a w) a → repeats (tableFor a w .S) ≡ false → fine [] ≡ auditCall w
-  all-well word c p r =
-      audit-fine w (legal-seats w a size .0) (pass-sound w known
-      (record { some = rw (c .isN) (c .some); most = rw (c .isN, is-a) (c .most); all = subst (λ (n : ℕ). AllPass (tableFor n w) n) (sym is-a) p; once = subst (λ (n : ℕ). repeats (tableFor n w .S) ≡ false) (sym is-a) r }) word)
+  pub all-well : ((i : ℕ) → w ! i < 2 ^ 32) → HeadPasses w a → AllPass (tableFor a w) a → repeats (tableFor a w .S) ≡ false → fine [] ≡ auditCall w
+  all-well word h p r =
+      audit-fine w isLegal (pass-sound w (is-legal w isLegal) (subst (Pass w) (sym (known .first)) (record { head = h; all = p; once = r })) word)

@@ -1,17 +1,15 @@
 -- Decisions of statements that are told in parts.
--- Assumes nothing.
 use mathlib.Core.Path.{_≡_, _∙_}
 use mathlib.Core.Logic.{_≢_}
-use mathlib.Core.Bool.{Bool, true, false, _&&_}
-use Prim.Native.Nat.{ℕ, _+_, _-_, _<_, _≤_, max}
+use mathlib.Core.Bool.{Bool}
+use Prim.Native.Nat.{ℕ, _-_, _<_, _≤_, max}
 use native.Mathlib.Omega.{arith}
-use borrow.Author.Count.{below-more}
 use Rattle.rules.specs.Table.{_!_, Bare, Table}
 use Rattle.sound.specs.Test.{Owes, stays, Cut, stood, moved}
 use Rattle.sound.proofs.Audit.{owes-stays}
 use Rattle.promises.specs.Decides.{Decides}
 use Rattle.promises.proofs.Decided.{decides-iff}
-use Rattle.audit.specs.Pass.{LineHas, SeatPasses, Removed, RemovalPasses, AllPass}
+use Rattle.audit.specs.Pass.{LineHas, SeatPasses, Removed, RemovalPasses}
 
 -- the seat that stood last moved, if it is another
 has-moved : {T : Bare} {p b : ℕ} → Cut T p b → T .W ! p ≢ b → Owes T (T .W ! p) (T .L ! b)
@@ -50,13 +48,3 @@ removed-moved T i b last q r is-last is-q below dated lastK other low under =
 pub removal-taken : (T : Bare) (i b : ℕ) (r : Bool) → b ≡ T .R ! i → i < T .seats - T .used → Decides r (Removed T i b) → Decides r (RemovalPasses T i)
 removal-taken T i b r is-b early =
     decides-iff r (λ m. record { taken = λ h. rw is-b at m; rest = λ h. absurd (omega arith) }) (λ p. rw is-b (p .taken early))
-
--- what passes below i, and i, pass below i + 1
-pub pass-none : (T : Table) → AllPass T 0
-pass-none T = record { seats = λ x h. absurd (omega arith); removals = λ i h. absurd (omega arith) }
-
-pub pass-more : (T : Table) (i : ℕ) (ok s r : Bool) → Decides ok (AllPass T i) → Decides s (SeatPasses T i) → Decides r (RemovalPasses (T .bare) i) → Decides ((ok && s) && r) (AllPass T (i + 1))
-pass-more T i false s r n ds dr = λ p. n (record { seats = λ x h. p .seats x (omega arith); removals = λ x h. p .removals x (omega arith) })
-pass-more T i true false r a n dr = λ p. n (p .seats i (omega arith))
-pass-more T i true true false a ds n = λ p. n (p .removals i (omega arith))
-pass-more T i true true true a ds dr = record { seats = below-more _ _ (a .seats) ds; removals = below-more _ _ (a .removals) dr }

@@ -1,5 +1,4 @@
 -- The promise of `audit_table` leaves one result: an answer's number says which it is.
--- Assumes nothing.
 use mathlib.Core.Path.{refl, sym, ap}
 use Rattle.promises.specs.One.{One}
 use Rattle.rules.specs.Answers.{Answer, Says}

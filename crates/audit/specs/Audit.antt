@@ -1,10 +1,10 @@
--- Document 01, 'Numbers a call can answer': the audit, 1, 5.
+-- Document 01, 'Numbers a call can answer': the audit, 1, 5. SIZE where the words have no legal shape, DAMAGED where they are not sound, else 0 with no value.
 use mathlib.Core.Bool.{Bool, not}
 use mathlib.Core.List.{List, [], _∷_}
 use Prim.Native.Nat.{ℕ}
 use Rattle.rules.specs.Table.{legal}
 use Rattle.rules.specs.History.{Sound}
-use Rattle.rules.specs.Answers.{Answer, fine, refused, _⇒_, firstThat}
+use Rattle.rules.specs.Answers.{Answer, fine, refused, Occasion, _⇒_, firstThat}
 use Rattle.rules.specs.declared.Refusal.the-variants.{Size, Damaged}
 use Rattle.sound.proofs.Sound.{sound?}
 use Rattle.promises.specs.Decides.{decided}
@@ -20,6 +20,10 @@ abbrev pub auditedAnswer : Audited → Answer
 auditedAnswer audited.Sound = fine []
 auditedAnswer (audited.Refused r) = refused r
 
+-- what every call that reads or changes a table, but find, asks of its run first
+abbrev pub auditRefusals : List ℕ → List Occasion
+auditRefusals w = not (legal w) ⇒ Size ∷ not (isSound w) ⇒ Damaged ∷ []
+
 unfoldable pub auditCall : List ℕ → Answer
 unfolding isSound
-auditCall w = firstThat (not (legal w) ⇒ Size ∷ not (isSound w) ⇒ Damaged ∷ []) refused (fine [])
+auditCall w = firstThat (auditRefusals w) refused (fine [])

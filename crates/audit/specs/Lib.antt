@@ -1,2 +1,4 @@
-pub mod Pass
+-- What a reader must believe.
 pub mod Audit
+-- What serves the proofs.
+pub mod Pass

@@ -5,7 +5,12 @@ use mathlib.Core.Logic.{_≢_}
 use Prim.Native.Nat.{ℕ, _-_, _<_, _≤_}
 use Rattle.rules.specs.Table.{_!_, Bare, Table}
 use Rattle.sound.specs.Test.{Owes, Cut}
-use Rattle.parts.specs.Shape.{Shape}
+use Rattle.rules.specs.Runs.{Shape}
+
+-- the words before the parts: N is from 1 to a
+pub record HeadPasses (w : List ℕ) (a : ℕ) : Type 0 where
+  pub some : 1 ≤ w ! 1
+  pub most : w ! 1 ≤ a
 
 -- a run for a seats with n of them in use
 pub record Counted (w : List ℕ) (a n : ℕ) : Type 0 where
@@ -35,7 +40,11 @@ pub record RemovalPasses (T : Bare) (i : ℕ) : Type 0 where
   pub taken : i < T .seats - T .used → Removed T i (T .R ! i)
   pub rest : T .seats - T .used ≤ i → T .R ! i ≡ 0
 
+-- i as a seat, and as an entry of R
+pub record IndexPasses (T : Table) (i : ℕ) : Type 0 where
+  pub seat : SeatPasses T i
+  pub removal : RemovalPasses (T .bare) i
+
 -- those below n pass
-pub record AllPass (T : Table) (n : ℕ) : Type 0 where
-  pub seats : (x : ℕ) → x < n → SeatPasses T x
-  pub removals : (i : ℕ) → i < n → RemovalPasses (T .bare) i
+abbrev pub AllPass : Table → ℕ → Type 0
+AllPass T n = (i : ℕ) → i < n → IndexPasses T i

@@ -2,10 +2,11 @@
 ghost use mathlib.Core.Path.{_≡_};
 ghost use Prim.Native.Nat.{_<_};
 ghost use Rattle.rules.specs.Table.{_!_, tableFor};
+ghost use Rattle.rules.specs.Runs.{Shape};
 ghost use Rattle.rules.specs.Answers.{Says};
 ghost use Rattle.sound.specs.Test.{Owes};
 ghost use Rattle.promises.specs.Decides.{Decides};
-ghost use Rattle.audit.specs.Pass.{Counted, LineHas, SeatPasses, Removed, RemovalPasses, AllPass};
+ghost use Rattle.audit.specs.Pass.{HeadPasses, Counted, LineHas, SeatPasses, Removed, RemovalPasses, IndexPasses, AllPass};
 ghost use Rattle.audit.specs.Audit.{auditedAnswer, auditCall};
 use ids::repeats_in;
 use parts::Size;
@@ -27,6 +28,13 @@ pub enum Audited {
     Refused(Refusal),
 }
 
+// Are the two words the same?
+fn same(x: u32, y: u32) -> bool
+    ensures { λ r. ⌜ Decides r (x ≡ y) ⌝ }
+{
+    if x == y { true } else { false }
+}
+
 // Is x the seat that W has at q, and, where q is in the line, q the position that L has for x?
 fn stands(t: &[u32], a: usize, n: usize, x: Seat, q: Position) -> bool
     requires { ⌜ (Counted (now t) a n) × (x .0 < a) × (q .0 < a) ⌝ }
@@ -38,7 +46,7 @@ fn stands(t: &[u32], a: usize, n: usize, x: Seat, q: Position) -> bool
     if n <= q.0 as usize {
         return true;
     }
-    if get_l(t, a, x).0 == q.0 { true } else { false }
+    same(get_l(t, a, x).0, q.0)
 }
 
 // Do the words say that seat x stood at position q?
@@ -53,7 +61,7 @@ fn owes(t: &[u32], a: usize, n: usize, x: Seat, q: Position) -> bool
     if left < q.0 {
         return stands(t, a, n, x, q);
     }
-    if get_l(t, a, x).0 == q.0 { true } else { false }
+    same(get_l(t, a, x).0, q.0)
 }
 
 // Are the words of seat x right? Its history begins where the line of all a seats has it.
@@ -125,10 +133,18 @@ fn removal_passes(t: &[u32], a: usize, n: usize, i: usize) -> bool
     if i < a - n {
         return removed(t, a, n, i, b);
     }
-    if b.0 == 0 { true } else { false }
+    same(b.0, 0)
 }
 
-// One pass over A, K, W, L and R. The line of all a seats has b at b, so i counts its seats and its positions.
+// Is i right, as a seat and as an entry of R? The line of all a seats has b at b, so i counts its seats and its positions.
+fn index_passes(t: &[u32], a: usize, n: usize, i: usize) -> bool
+    requires { ⌜ (Counted (now t) a n) × (i < a) ⌝ }
+    ensures { λ r. ⌜ Decides r (IndexPasses (tableFor a (now (t .entry))) i) ⌝ }
+{
+    seat_passes(t, a, n, Seat(i as u32), Position(i as u32)) & removal_passes(t, a, n, i)
+}
+
+// One pass over A, K, W, L and R.
 fn all_pass(t: &[u32], a: usize, n: usize) -> bool
     requires { ⌜ Counted (now t) a n ⌝ }
     ensures { λ r. ⌜ Decides r (AllPass (tableFor a (now (t .entry))) a) ⌝ }
@@ -136,12 +152,25 @@ fn all_pass(t: &[u32], a: usize, n: usize) -> bool
     let mut ok = true;
     let mut i: usize = 0;
     while i < a {
-        ok = ok
-            & seat_passes(t, a, n, Seat(i as u32), Position(i as u32))
-            & removal_passes(t, a, n, i);
+        ok = ok & index_passes(t, a, n, i);
         i += 1;
     }
     ok
+}
+
+// Is N right?
+fn head_passes(t: &[u32], a: usize) -> bool
+    requires { ⌜ Shape (now t) a ⌝ }
+    ensures { λ r. ⌜ Decides r (HeadPasses (now (t .entry)) a) ⌝ }
+{
+    let n = get_n(t) as usize;
+    if n < 1 {
+        return false;
+    }
+    if a < n {
+        return false;
+    }
+    true
 }
 
 pub fn audit_table(t: &[u32]) -> Audited
@@ -150,14 +179,10 @@ pub fn audit_table(t: &[u32]) -> Audited
     let Size::Is(a) = size_of(t) else {
         return Audited::Refused(Refusal::Size);
     };
-    let n = get_n(t) as usize;
-    if n < 1 {
+    if !head_passes(t, a) {
         return Audited::Refused(Refusal::Damaged);
     }
-    if a < n {
-        return Audited::Refused(Refusal::Damaged);
-    }
-    if all_pass(t, a, n) {
+    if all_pass(t, a, get_n(t) as usize) {
         // the one search among pairs
         if repeats_in(servers(t, a)) {
             return Audited::Refused(Refusal::Damaged);

@@ -6,12 +6,14 @@ use Prim.Native.Nat.{ℕ, _<_, _^_}
 use Rattle.rules.specs.Table.{_!_, tableOf}
 use Rattle.rules.specs.Changes.{opened}
 use Rattle.rules.specs.History.{Opens, Change, taking, seating, Accepts, changed, Sound}
+use Rattle.rules.specs.Asks.{Opening, Asks}
 use Rattle.rules.specs.Answers.{done}
 use Rattle.changes.specs.Calls.{openCall, seatCall, outCall}
 
 -- an opening with a and ids leaves the words u
 pub record IsOpening (a : ℕ) (ids u : List ℕ) : Type 0 where
   pub opens : Opens a ids
+  pub asks : Opening a ids
   pub table : tableOf u ≡ opened a ids
   pub sound : Sound u
 
@@ -21,6 +23,7 @@ OpenOpens = (w u : List ℕ) (a : ℕ) (ids vs : List ℕ) → ((i : ℕ) → id
 -- from the words w the change c leaves v
 pub record IsChange (c : Change) (w v : List ℕ) : Type 0 where
   pub accepts : Accepts (tableOf w) c
+  pub asks : Asks (tableOf w) c
   pub table : tableOf v ≡ changed (tableOf w) c
   pub sound : Sound v
 

@@ -1,5 +1,11 @@
 // The changes of a table: opening, seating, taking out.
+ghost use mathlib.Core.Path.{_≡_};
+ghost use mathlib.Core.Bool.{true};
+ghost use Rattle.rules.specs.Table.{tableFor};
+ghost use Rattle.rules.specs.Ids.{occurs, placeOf};
 ghost use Rattle.rules.specs.History.{Sound};
+ghost use Rattle.rules.specs.Runs.{Shape};
+ghost use Rattle.parts.specs.Shape.{IsSeat};
 ghost use Rattle.rules.specs.Answers.{Results};
 ghost use Rattle.changes.specs.Calls.{openedAnswer, changedAnswer, openCall, seatCall, outCall};
 use audit::Audited;
@@ -31,6 +37,22 @@ pub enum Changed {
     Refused(Refusal),
 }
 
+// Is the id seated?
+fn is_seated(t: &[u32], a: usize, id: u32) -> bool
+    requires { ⌜ Shape (now t) a ⌝ }
+    ensures { λ r. ⌜ r ≡ occurs id (tableFor a (now (t .entry)) .S) ⌝ }
+{
+    occurs_in(servers(t, a), id)
+}
+
+// The seat of an id that is seated.
+fn seat_of(t: &[u32], a: usize, id: u32) -> Seat
+    requires { ⌜ (Shape (now t) a) × (occurs id (tableFor a (now t) .S) ≡ true) ⌝ }
+    ensures { λ r. ⌜ IsSeat (placeOf id (tableFor a (now (t .entry)) .S)) r ⌝ }
+{
+    Seat(place_in(servers(t, a), id) as u32)
+}
+
 // Seating in a sound table.
 fn seat_sound(t: &mut [u32], id: u32) -> Changed
     requires { ⌜ Sound (now t) ⌝ }
@@ -40,7 +62,7 @@ fn seat_sound(t: &mut [u32], id: u32) -> Changed
         return Changed::Refused(Refusal::Id);
     }
     let a = get_seats(t) as usize;
-    if occurs_in(servers(t, a), id) {
+    if is_seated(t, a, id) {
         return Changed::Refused(Refusal::Twice);
     }
     if get_n(t) as usize == a {
@@ -68,11 +90,11 @@ fn out_sound(t: &mut [u32], id: u32) -> Changed
         return Changed::Refused(Refusal::Id);
     }
     let a = get_seats(t) as usize;
-    if occurs_in(servers(t, a), id) {
+    if is_seated(t, a, id) {
         if get_n(t) == 1 {
             return Changed::Refused(Refusal::Last);
         }
-        let b = Seat(place_in(servers(t, a), id) as u32);
+        let b = seat_of(t, a, id);
         take_out_seat(t, a, b);
         return Changed::At(b);
     }

@@ -1,12 +1,11 @@
 -- As many seatings as removals leave every word but the ids as it was, since they empty the stack of removals; so every key is found as
 -- before.
--- Assumes nothing.
 use mathlib.Core.Path.{_≡_, refl, sym, ap, _∙_, subst}
 use mathlib.Core.List.{List, [], _∷_}
 use Prim.Native.Nat.{ℕ, suc, _+_}
 use native.Mathlib.Omega.{arith}
 use lib.ListN.{length}
-use Rattle.rules.specs.Table.{Bare, Table, tableOf}
+use Rattle.rules.specs.Table.{Bare, Table, table, tableOf}
 use Rattle.rules.specs.History.{Change, taking, Sound}
 use Rattle.sound.proofs.Reached.{passes}
 use Rattle.sound.proofs.Sound.{sound-table}
@@ -56,5 +55,5 @@ theorem servers ids w u v s outs-done seats-done size k =
     let p = outs 0 (length servers) (omega arith) outs-done start in
     let (same, t) = seats (p .removals) seats-done (p .sound) (omega (arith, p .size)) (p .stack) in
     let (f, was) = finds w k s in
-    let now = finds-same v k f t (ap (λ (B : Bare). rule (record { bare = B; S = [] }) k) (sym same) ∙ was .ruled) in
+    let now = finds-same v k f t (ap (λ (B : Bare). rule (table B []) k) (sym same) ∙ was .ruled) in
     rw (was .answer, now .answer) (refl, refl)

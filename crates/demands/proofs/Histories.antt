@@ -1,6 +1,5 @@
 -- Along an accepted history the table is the stack of removals not answered so far, over what the seatings left over made of the opening;
 -- so it ends as what is left of the history makes it. A seat in use was given its id by its latest seating, or by the opening.
--- Assumes nothing.
 use mathlib.Core.Path.{_≡_, refl, sym, ap, _∙_, subst}
 use mathlib.Core.Bool.{cond}
 use mathlib.Core.List.{List, [], _∷_, _++_, reverse, reverse-cons, append-nil, append-assoc, Sublistᴰ, Sublistᴰ·cons, Sublistᴰ·refl, Sublistᴰ·trans, Sublistᴰ·cons-cons}
@@ -18,7 +17,7 @@ use Rattle.rules.proofs.Lists.{zeros-at}
 use Rattle.sound.proofs.Written.{written}
 use Rattle.sound.proofs.KeptOut.{still}
 use Rattle.sound.proofs.Steps.{kept, seat-leaves}
-use Rattle.sound.proofs.Reached.{Passes, leaves, changed-passes, opened-passes}
+use Rattle.sound.proofs.Reached.{Passes, leaves, room, changed-passes, opened-passes}
 use Rattle.changes.specs.Accepted.{IsChange}
 use Rattle.changes.proofs.Accepted.{out-changes, seat-changes, open-opens}
 use Rattle.demands.specs.Histories.{struck, strike, lastGiven, Answers, read, removal, answer, alone, Struck, Histories, Calls, end, out, seat, HistoriesOfCalls}
@@ -32,7 +31,7 @@ ends (then {c = taking id b} s ok) p m k = ends ok (changed-passes (taking id b)
 ends {unanswered = r ∷ unanswered} (then {c = seating id b} s ok) p m k = ends ok (changed-passes (seating id b) p s) m (pop k)
 ends {O} {T = T} {unanswered = []} (then {c = seating id b} s ok) p m k =
     let m′ = rw (emptied k) at m in
-    ends ok (changed-passes (seating id b) p s) (makes-append m′ (next (s .room, s .isLast) nothing)) empty
+    ends ok (changed-passes (seating id b) p s) (makes-append m′ (next (room p s, s .isLast) nothing)) empty
 
 -- the latest removal not answered so far is the last seat out
 answered : {B : Bare} {T : Table} {h unanswered : List Change} → Accepted T h → Passes T → Stack B unanswered (T .bare) → Answers unanswered h
@@ -53,7 +52,7 @@ holds {T} (then {c = taking id b} s ok) p x g f = holds ok (changed-passes (taki
     let (ne, was) = still (T .bare) b k v (written k v) x z in
     getD-set-other (T .S) b x 0 0 ne ∙ f was)
 holds {T} (then {c = seating id b} s ok) p x g f = holds ok (changed-passes (seating id b) p s) x (cond (eqb b x) id g) (rw (s .isLast) (elim (ℕ-discrete x b) [
-  | yes e ↦ rw (e, eq-eqb b b refl) (λ z. getD-set-same (T .S) b id 0 (omega (arith, s .isLast, seat-leaves (T .bare) (p .test) (s .room) .below, p .ids .size)))
+  | yes e ↦ rw (e, eq-eqb b b refl) (λ z. getD-set-same (T .S) b id 0 (omega (arith, s .isLast, seat-leaves (T .bare) (p .test) (room p s) .below, p .ids .size)))
   | no ne ↦ rw (ne-eqb b x (λ e. ne (sym e)), getD-set-other (T .bare .A) b x 0 0 ne, getD-set-other (T .S) b x id 0 ne) f
 ]))
 

@@ -1,6 +1,5 @@
 -- A change moves only keys that are on its seat while that is in use, since the array rule finds every other key as before
 -- (crate lookups), and the other seats keep their servers.
--- Assumes nothing.
 use mathlib.Core.Path.{_≡_, refl, sym, ap, _∙_, subst}
 use mathlib.Core.List.{List, [], _∷_}
 use mathlib.Core.Logic.{_≢_}

@@ -1,14 +1,13 @@
 -- The removals that no seating answered so far are a stack over the table before them: a removal goes on top, and a seating takes the
 -- top off again, since it undoes that removal.
--- Assumes nothing.
 use mathlib.Core.Path.{_≡_, refl, sym, ap, _∙_, subst}
 use mathlib.Core.List.{List, [], _∷_, _++_, reverse, reverse-cons}
 use Prim.Native.Nat.{ℕ}
 use Rattle.rules.specs.Table.{Bare, Table}
-use Rattle.rules.specs.Changes.{out, seat, lastOut}
+use Rattle.rules.specs.Changes.{out, seat, lastOut, Leaves}
 use Rattle.rules.specs.History.{Change, taking, Takes}
 use Rattle.rules.specs.Keys.{move, moved}
-use Rattle.sound.specs.Kept.{Kept, Leaves}
+use Rattle.sound.specs.Kept.{Kept}
 use Rattle.rules.proofs.Undo.{last-out}
 use Rattle.sound.proofs.Made.{undone, leaves-stands}
 use Rattle.sound.proofs.Steps.{kept}
@@ -45,7 +44,7 @@ makes-append (next ok l) m = next ok (makes-append l m)
 pub stack-makes : {B T : Bare} {removals : List Change} → Stack B removals T → Makes B (reverse removals) T
 stack-makes empty = nothing
 stack-makes {B} (top {id = id} {b = b} {removals = removals} k g v e) =
-    rw (reverse-cons (taking id b) removals, ← e) (makes-append (stack-makes k) (next (v .below, v .inUse, v .two) nothing))
+    rw (reverse-cons (taking id b) removals, ← e) (makes-append (stack-makes k) (next v nothing))
 
 pub makes-same : {O T : Bare} {h : List Change} → Makes O h T → T ≡ reseat O h
 makes-same nothing = refl

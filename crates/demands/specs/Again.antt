@@ -14,6 +14,7 @@ pub data Each (call : List ℕ → ℕ → Outcome) : List ℕ → List ℕ → 
   none : {w : List ℕ} → Each call [] w w
   more : {id b : ℕ} {ids w u v : List ℕ} → id < 2 ^ 32 → call w id ≡ done (b ∷ []) u → Each call ids u v → Each call (id ∷ ids) w v
 
+-- and has as many draws as before
 abbrev pub Again : Type 0
 Again =
     (servers ids w u v : List ℕ) → Sound w → Each outCall servers w u → Each seatCall ids u v → length ids ≡ length servers

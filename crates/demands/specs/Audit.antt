@@ -1,4 +1,4 @@
--- Demand 2: "The audit says yes exactly for sound tables."
+-- Demand 2: "The audit says yes exactly for sound tables." Whatever the words are: if it answers 0 they are sound, and if they are sound it answers 0.
 use mathlib.Core.Path.{_≡_}
 use mathlib.Core.List.{List, []}
 use Prim.Native.Nat.{ℕ}

@@ -4,11 +4,11 @@
 use mathlib.Core.Path.{_≡_}
 use mathlib.Core.Bool.{cond}
 use mathlib.Core.List.{List, [], _∷_, _++_, reverse, Sublistᴰ}
-use Prim.Native.Nat.{ℕ, _<_, _≤_, _^_}
+use Prim.Native.Nat.{ℕ, _<_, _^_}
 use lib.ListN.{length}
 use lib.Dec.{eqb}
 use Rattle.rules.specs.Table.{_!_, Bare, Table, tableOf}
-use Rattle.rules.specs.Changes.{opened, lastOut}
+use Rattle.rules.specs.Changes.{opened, lastOut, Leaves}
 use Rattle.rules.specs.History.{Opens, Change, taking, seating, run, Accepted}
 use Rattle.rules.specs.Keys.{move, moved}
 use Rattle.rules.specs.Answers.{done}
@@ -32,7 +32,7 @@ reseat T (c ∷ h) = reseat (moved T (move c)) h
 
 -- each of them allowed in its turn: the seat that leaves is in use, and not the only one; the seat that returns is the last one out
 abbrev pub Allows : Bare → Change → Type 0
-Allows T (taking id b) = (b < T .seats) × (T .A ! b ≡ 0) × (2 ≤ T .used)
+Allows T (taking id b) = Leaves T b
 Allows T (seating id b) = (T .used < T .seats) × (lastOut T ≡ b)
 
 pub data Allowed : Bare → List Change → Type 0 where

@@ -1,18 +1,20 @@
--- Hollow versions, and why each does not meet the promises. A promise is an equation between a call's outcome and the definition of that call, so an outcome that
--- the definition does not have is shut out.
+-- Document 01, 'How tight the contracts are' and 'Errors we have met or nearly made': hollow versions, and why each does not meet the promises. A promise
+-- is an equation between a call's outcome and the definition of that call, so an outcome that the definition does not have is shut out.
 use mathlib.Core.Path.{_≡_}
 use mathlib.Core.List.{List, [], _∷_}
 use mathlib.Core.Logic.{_≢_}
 use Prim.Native.Nat.{ℕ, _<_, _^_}
+use lib.ListN.{replicate}
 use Rattle.rules.specs.Table.{_!_, words, tableOf}
 use Rattle.rules.specs.Changes.{opened, lastOut}
 use Rattle.rules.specs.History.{Sound}
 use Rattle.rules.specs.Keys.{firstOf, pickOf}
 use Rattle.rules.specs.Examples.{after, h3}
-use Rattle.rules.specs.Answers.{fine, refused, done}
+use Rattle.rules.specs.Answers.{fine, refused, refusedAt, done}
 use Rattle.rules.specs.declared.Refusal.{Refusal}
+use Rattle.rules.specs.declared.Refusal.the-variants.{Id as Zero}
 use Rattle.audit.specs.Audit.{auditCall}
-use Rattle.changes.specs.Calls.{seatCall, outCall}
+use Rattle.changes.specs.Calls.{openCall, seatCall, outCall}
 use Rattle.find.specs.Find.{findCall}
 
 -- one that refuses every call
@@ -38,17 +40,21 @@ TakesAnother = (w v : List ℕ) (id b : ℕ) → Sound w → tableOf w .S ! b �
 abbrev pub KeepsId : Type 0
 KeepsId = (w v : List ℕ) (id b : ℕ) → Sound w → tableOf v .S ! b ≡ id → outCall w id ≢ done (b ∷ []) v
 
+-- one that looks for a double before it looks for a 0: three seats, and the list 0 5 5
+abbrev pub ZeroFirst : Type 0
+ZeroFirst = openCall (replicate 20 0) 3 (0 ∷ 5 ∷ 5 ∷ []) ≡ refusedAt (replicate 20 0) Zero
+
 -- seven seats, the servers 11, 12 and 13
 abbrev pub seven : List ℕ
 seven = words (opened 7 (11 ∷ 12 ∷ 13 ∷ []))
 
--- one that finds the same seat for every key; one that makes the first redraw properly and then takes any seat in use; one with draws from nowhere: two keys, on
--- two seats, after three redraws and after two
+-- one that finds the same seat for every key; one that makes the first redraw properly and then takes any seat in use; one with draws from nowhere: two
+-- keys, on two seats, after three redraws and after two
 abbrev pub TwoKeys : Type 0
 TwoKeys = (findCall seven 20 ≡ fine (1 ∷ 12 ∷ 4 ∷ [])) × (findCall seven 28 ≡ fine (2 ∷ 13 ∷ 3 ∷ []))
 
--- one that reads today's W on a redraw: in E3's state key 11 comes to seat 1, and draws position 1. Today seat 2 stands there; it was seat 4 after seat 1 left, and
--- the key goes on to seat 3
+-- one that reads today's W on a redraw: in E3's state key 11 comes to seat 1, and draws position 1. Today seat 2 stands there; it was seat 4 after seat 1
+-- left, and the key goes on to seat 3
 abbrev pub TodaysLine : Type 0
 TodaysLine =
     (firstOf 11 7 ≡ 1) × (pickOf 11 1 (after 7 h3 .bare .A ! 1) ≡ 1) × (after 7 h3 .bare .W ! 1 ≡ 2) × (findCall (words (after 7 h3)) 11 ≡ fine (3 ∷ 14 ∷ 3 ∷ []))

@@ -1,3 +1,4 @@
+-- What a reader must believe.
 -- Demand 2: the audit, and what is accepted.
 pub mod Audit
 pub mod Accepts

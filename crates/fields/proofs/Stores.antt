@@ -1,5 +1,4 @@
 -- Stores one after the other; and a mark, which is two bytes.
--- Assumes nothing.
 use mathlib.Core.Path.{_≡_, refl, sym, ap, _∙_}
 use mathlib.Core.List.{List, [], _∷_, _++_}
 use Prim.Native.Nat.{ℕ, zero, suc, _+_, _<_, _≤_}
@@ -8,8 +7,8 @@ use native.Mathlib.Omega.{arith}
 use lib.ListN.{length, set}
 use lib.Seq.{sets, set-comm}
 use Rattle.rules.specs.Table.{_!_}
-use Rattle.saved.specs.Reader.{Stands}
-use Rattle.saved.proofs.Fields.{stands-bytes}
+use Rattle.fields.specs.Numbers.{Stands}
+use Rattle.fields.proofs.Numbers.{stands-bytes}
 
 next : (i n : ℕ) → i + suc n ≡ suc i + n
 next i n = omega arith

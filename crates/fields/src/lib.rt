@@ -1,48 +1,65 @@
-// The records in lent bytes: where each stands, and its fields, a mark of two bytes and a number of so many bytes, big-endian, written and read.
+// Fields in lent bytes: a mark of two bytes, and a number of so many bytes, big-endian, written and read. And a record's form, with its places.
 ghost use mathlib.Core.Path.{_≡_};
 ghost use Prim.Native.Nat.{_+_, _<_, _≤_, _^_};
 ghost use lib.ListN.{length};
 ghost use lib.Seq.{sets};
 ghost use Rattle.promises.specs.Decides.{Decides};
-ghost use Rattle.saved.specs.Record.{bytes};
-ghost use Rattle.saved.specs.Reader.{numberAt, Stands, outAt, inAt};
+ghost use Rattle.fields.specs.Numbers.{bytes, numberAt, Stands};
+ghost use Rattle.fields.specs.Form.{headMark, field, outLength, inLength, outAt, inAt};
 
-// The bytes of a mark; of a, of N and of a seat; and of a server.
+// The forms of a record.
+pub enum Form {
+    Short,
+}
+
+// The bytes of a mark, and of a server.
 pub const MARK: usize = 2;
-
-pub const FIELD: usize = 2;
 
 pub const SERVER: usize = 4;
 
-// Where a record's second field begins; and the bytes of the head, of a removal's record, and of a seat's in use.
-pub const SECOND: usize = MARK + FIELD;
-
-pub const HEAD: usize = SECOND + FIELD;
-
-pub const OUT: usize = MARK + FIELD;
-
-pub const IN: usize = SECOND + SERVER;
-
-// The marks 41 53, 4F 55 and 49 4E.
-pub const HEAD_MARK: [u8; 2] = *b"AS";
-
+// The marks 4F 55 and 49 4E.
 pub const OUT_MARK: [u8; 2] = *b"OU";
 
 pub const IN_MARK: [u8; 2] = *b"IN";
 
-// Where the i-th removal's record stands, and after m removals the record of the j-th seat in use.
-pub fn out_at(i: usize) -> usize
-    requires { ⌜ outAt i < 2 ^ 64 ⌝ }
-    ensures { λ r. ⌜ r ≡ outAt i ⌝ }
+// The head's mark.
+pub fn head_mark(f: Form) -> [u8; 2]
+    ensures { λ r. ⌜ r ≡ headMark f ⌝ }
 {
-    HEAD + OUT * i
+    match f {
+        Form::Short => *b"AS",
+    }
 }
 
-pub fn in_at(m: usize, j: usize) -> usize
-    requires { ⌜ inAt m j < 2 ^ 64 ⌝ }
-    ensures { λ r. ⌜ r ≡ inAt m j ⌝ }
+// The bytes of a, of N and of a seat.
+pub fn width(f: Form) -> usize
+    ensures { λ r. ⌜ r ≡ field f ⌝ }
 {
-    HEAD + OUT * m + IN * j
+    match f {
+        Form::Short => 2,
+    }
+}
+
+// Where a record's second field begins, and a removal's record ends.
+pub fn second(f: Form) -> usize
+    ensures { λ r. ⌜ r ≡ outLength f ⌝ }
+{
+    MARK + width(f)
+}
+
+// Where the i-th removal's record stands, and after m removals the record of the j-th seat in use.
+pub fn out_at(f: Form, i: usize) -> usize
+    requires { ⌜ outAt f i < 2 ^ 64 ⌝ }
+    ensures { λ r. ⌜ r ≡ outAt f i ⌝ }
+{
+    second(f) + width(f) + second(f) * i
+}
+
+pub fn in_at(f: Form, m: usize, j: usize) -> usize
+    requires { ⌜ inAt f m j < 2 ^ 64 ⌝ }
+    ensures { λ r. ⌜ r ≡ inAt f m j ⌝ }
+{
+    out_at(f, m) + (second(f) + SERVER) * j
 }
 
 pub fn put_mark(out: &mut [u8], at: usize, mark: &[u8; 2])
@@ -90,4 +107,33 @@ pub fn number_at(s: &[u8], at: usize, width: usize) -> u32
         i += 1;
     }
     x
+}
+
+// The first field of the record at `at`: a in the head, else the seat. And the server of a seat in use.
+pub fn put_first(out: &mut [u8], f: Form, at: usize, x: u32)
+    requires { ⌜ at + outLength f ≤ length (now out) ⌝ }
+    ensures { λ _. ⌜ now (out .exit) ≡ sets (now (out .entry)) (at + 2) (bytes (field f) x) ⌝ }
+{
+    put_number(out, at + MARK, width(f), x);
+}
+
+pub fn put_id(out: &mut [u8], f: Form, at: usize, id: u32)
+    requires { ⌜ at + inLength f ≤ length (now out) ⌝ }
+    ensures { λ _. ⌜ now (out .exit) ≡ sets (now (out .entry)) (at + outLength f) (bytes 4 id) ⌝ }
+{
+    put_number(out, at + second(f), SERVER, id);
+}
+
+pub fn first_at(f: Form, s: &[u8], at: usize) -> u32
+    requires { ⌜ at + outLength f ≤ length (now s) ⌝ }
+    ensures { λ r. ⌜ r ≡ numberAt (now (s .entry)) (at + 2) (field f) ⌝ }
+{
+    number_at(s, at + MARK, width(f))
+}
+
+pub fn server_at(f: Form, s: &[u8], at: usize) -> u32
+    requires { ⌜ at + inLength f ≤ length (now s) ⌝ }
+    ensures { λ r. ⌜ r ≡ numberAt (now (s .entry)) (at + outLength f) 4 ⌝ }
+{
+    number_at(s, at + second(f), SERVER)
 }

@@ -1,5 +1,4 @@
 -- The array rule, redraw by redraw, on any table: A falls, so A[b] redraws are enough from b on, and fewer and fewer seats have a smaller A.
--- Assumes nothing.
 use mathlib.Core.Path.{_≡_, refl, sym, ap, _∙_}
 use mathlib.Core.Bool.{Bool, true, false, cond}
 use mathlib.Core.List.{List, [], _∷_}

@@ -1,5 +1,4 @@
 -- The promise of `find_server` leaves one result: an answer's number and values say which it is.
--- Assumes nothing.
 use mathlib.Core.Path.{_≡_, sym, ap}
 use Rattle.promises.specs.One.{One}
 use Rattle.rules.specs.Answers.{Answer, Says}

@@ -1,4 +1,6 @@
--- Document 01, 'Finding a key', by the arrays; 'Numbers a call can answer', Find: 1, 5.
+-- Document 01, 'Finding a key', by the arrays; 'Numbers a call can answer', Find: 1, 5. SIZE where the words have no legal shape. Else the key's first
+-- seat is drawn, and redrawn while it is out of use; the answer is the seat, its server and the draws, or DAMAGED where a walk is lost or the seat has no
+-- server. That the table is sound is not asked.
 use mathlib.Core.Bool.{not, cond}
 use mathlib.Core.List.{List, [], _∷_}
 use Prim.Native.Nat.{ℕ}

@@ -1,4 +1,4 @@
--- What find answers.
+-- What a reader must believe.
 pub mod Find
--- What its steps answer.
+-- What serves the proofs.
 pub mod Steps

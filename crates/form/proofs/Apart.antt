@@ -1,5 +1,4 @@
 -- Servers told apart: two times four bytes are the same number whichever way they are read, or different numbers either way.
--- Assumes nothing.
 use mathlib.Core.Path.{_≡_, ap}
 use mathlib.Core.Bool.{not}
 use mathlib.Core.List.{List}
@@ -11,7 +10,7 @@ use lib.Dec.{eqb}
 use Rattle.rules.specs.Table.{_!_}
 use Rattle.promises.specs.Decides.{Decides}
 use Rattle.promises.proofs.Decided.{decides-iff, decides-other}
-use Rattle.saved.specs.Reader.{numberAt}
+use Rattle.fields.specs.Numbers.{numberAt}
 use Rattle.form.specs.Tests.{join, backwardAt}
 
 either-way : (w x y z p q r t : ℕ) → w < 256 → x < 256 → y < 256 → z < 256 → p < 256 → q < 256 → r < 256 → t < 256

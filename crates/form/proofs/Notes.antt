@@ -1,5 +1,4 @@
 -- A flag for each seat out of use tells what A tells: taking a seat out makes both not 0.
--- Assumes nothing.
 use mathlib.Core.Path.{_≡_, refl, sym, ap, ap₂, _∙_}
 use mathlib.Core.Bool.{Bool, true, false}
 use mathlib.Core.List.{List}
@@ -13,11 +12,12 @@ use lib.Seq.{getD-set-same, getD-set-other}
 use lib.Dec.{eqb}
 use borrow.Author.Tests.{eq-eqb, ne-eqb, eqb-true}
 use Rattle.rules.specs.Table.{_!_, mostSeats}
+use Rattle.rules.specs.Changes.{Leaves}
 use Rattle.rules.proofs.Lists.{zeros-at}
 use Rattle.promises.proofs.Decided.{true-or-false}
-use Rattle.sound.specs.Kept.{Leaves}
 use Rattle.sound.specs.Canonical.{after}
 use Rattle.sound.proofs.Made.{after-counts}
+use Rattle.fields.specs.declared.Form.{Form}
 use Rattle.saved.specs.Reader.{listed, leftAt, bareFrom}
 use Rattle.saved.proofs.Each.{listed-at}
 use Rattle.saved.specs.Fits.{OutFits, AllOut}
@@ -30,9 +30,9 @@ module _ {A flags : List ℕ} {a : ℕ} (n : Noted A flags a) (x : ℕ) (h : x <
   pub noted-out : flags ! x ≢ 0 → A ! x ≢ 0
   noted-out ne z = ne (eqb-true _ _ (n .same x h ∙ eq-eqb (A ! x) 0 z))
 
-module _ (s : List ℕ) (a m : ℕ) (l : Leaving s a m) where
+module _ {f : Form} {s : List ℕ} {a m : ℕ} (l : Leaving f s a m) where
   -- nobody has left
-  pub noted-none : (flags : List ℕ) → flags ≡ replicate mostSeats 0 → Noted (bareFrom s a m 0 .A) flags a
+  pub noted-none : (flags : List ℕ) → flags ≡ replicate mostSeats 0 → Noted (bareFrom f s a m 0 .A) flags a
   unfolding bareFrom after
   noted-none flags e =
       rw e
@@ -43,28 +43,28 @@ module _ (s : List ℕ) (a m : ℕ) (l : Leaving s a m) where
 
   module _ (i : ℕ) (early : i < m) where
     -- the next seat leaves
-    pub leaves-next : (b : ℕ) → b ≡ leftAt s i → b < a → bareFrom s a m i .A ! b ≡ 0 → Leaves (bareFrom s a m i) (leftAt s i)
+    pub leaves-next : (b : ℕ) → b ≡ leftAt f s i → b < a → bareFrom f s a m i .A ! b ≡ 0 → Leaves (bareFrom f s a m i) (leftAt f s i)
     unfolding bareFrom
     leaves-next b e h z =
-        let c = after-counts a (listed (leftAt s) m) i in
+        let c = after-counts a (listed (leftAt f s) m) i in
         record { below = omega (arith, c .0); inUse = rw (← e) z; two = omega (arith, c .1, l .fewer) }
 
-    pub leaves-below : Leaves (bareFrom s a m i) (leftAt s i) → leftAt s i < a
+    pub leaves-below : Leaves (bareFrom f s a m i) (leftAt f s i) → leftAt f s i < a
     unfolding bareFrom
-    leaves-below v = omega (arith, v .below, after-counts a (listed (leftAt s) m) i .0)
+    leaves-below v = omega (arith, v .below, after-counts a (listed (leftAt f s) m) i .0)
 
-    next-A : bareFrom s a m (i + 1) .A ≡ set (bareFrom s a m i .A) (leftAt s i) (bareFrom s a m i .used - 1)
+    next-A : bareFrom f s a m (i + 1) .A ≡ set (bareFrom f s a m i .A) (leftAt f s i) (bareFrom f s a m i .used - 1)
     unfolding bareFrom after
     next-A =
-        ap (λ (k : ℕ). after a (listed (leftAt s) m) k .A) (add-one i)
-        ∙ ap (λ (b : ℕ). set (after a (listed (leftAt s) m) i .A) b (after a (listed (leftAt s) m) i .used - 1)) (listed-at (leftAt s) m i early)
+        ap (λ (k : ℕ). after a (listed (leftAt f s) m) k .A) (add-one i)
+        ∙ ap (λ (b : ℕ). set (after a (listed (leftAt f s) m) i .A) b (after a (listed (leftAt f s) m) i .used - 1)) (listed-at (leftAt f s) m i early)
 
-    pub noted-more : (flags : List ℕ) (b : ℕ) → b ≡ leftAt s i → b < a → Noted (bareFrom s a m i .A) flags a → Noted (bareFrom s a m (i + 1) .A) (set flags b 1) a
+    pub noted-more : (flags : List ℕ) (b : ℕ) → b ≡ leftAt f s i → b < a → Noted (bareFrom f s a m i .A) flags a → Noted (bareFrom f s a m (i + 1) .A) (set flags b 1) a
     unfolding bareFrom
     noted-more flags b e h n =
-        let c = after-counts a (listed (leftAt s) m) i in
-        let A = bareFrom s a m i .A in
-        let v = bareFrom s a m i .used - 1 in
+        let c = after-counts a (listed (leftAt f s) m) i in
+        let A = bareFrom f s a m i .A in
+        let v = bareFrom f s a m i .used - 1 in
         rw (next-A, ← e)
         (record {
           size = length-set flags b 1 ∙ n .size;
@@ -78,18 +78,18 @@ module _ (s : List ℕ) (a m : ℕ) (l : Leaving s a m) where
         })
 
 -- what the answers tell
-pub out-yes : (s : List ℕ) (a m i : ℕ) (r : Bool) (flags : List ℕ) → r ≡ true → OutTold s a m i r flags → OutFits s a m i × Noted (bareFrom s a m (i + 1) .A) flags a
-out-yes s a m i true flags e t = t
-out-yes s a m i false flags e t = true-or-false false e refl
+pub out-yes : (f : Form) (s : List ℕ) (a m i : ℕ) (r : Bool) (flags : List ℕ) → r ≡ true → OutTold f s a m i r flags → OutFits f s a m i × Noted (bareFrom f s a m (i + 1) .A) flags a
+out-yes f s a m i true flags e t = t
+out-yes f s a m i false flags e t = true-or-false false e refl
 
-pub out-no : (s : List ℕ) (a m i : ℕ) (r : Bool) (flags : List ℕ) → r ≡ false → OutTold s a m i r flags → OutFits s a m i → ⊥
-out-no s a m i true flags e t = true-or-false true refl e
-out-no s a m i false flags e t = t
+pub out-no : (f : Form) (s : List ℕ) (a m i : ℕ) (r : Bool) (flags : List ℕ) → r ≡ false → OutTold f s a m i r flags → OutFits f s a m i → ⊥
+out-no f s a m i true flags e t = true-or-false true refl e
+out-no f s a m i false flags e t = t
 
-pub outs-yes : (s : List ℕ) (a m : ℕ) (r : Bool) (flags : List ℕ) → r ≡ true → OutsTold s a m r flags → AllOut s a m m × Noted (bareFrom s a m m .A) flags a
-outs-yes s a m true flags e t = t
-outs-yes s a m false flags e t = true-or-false false e refl
+pub outs-yes : (f : Form) (s : List ℕ) (a m : ℕ) (r : Bool) (flags : List ℕ) → r ≡ true → OutsTold f s a m r flags → AllOut f s a m m × Noted (bareFrom f s a m m .A) flags a
+outs-yes f s a m true flags e t = t
+outs-yes f s a m false flags e t = true-or-false false e refl
 
-pub outs-no : (s : List ℕ) (a m : ℕ) (r : Bool) (flags : List ℕ) → r ≡ false → OutsTold s a m r flags → AllOut s a m m → ⊥
-outs-no s a m true flags e t = true-or-false true refl e
-outs-no s a m false flags e t = t
+pub outs-no : (f : Form) (s : List ℕ) (a m : ℕ) (r : Bool) (flags : List ℕ) → r ≡ false → OutsTold f s a m r flags → AllOut f s a m m → ⊥
+outs-no f s a m true flags e t = true-or-false true refl e
+outs-no f s a m false flags e t = t

@@ -1,5 +1,4 @@
 -- Scans of a list of ids, an element at a time: what is found so far, and what the rest still holds.
--- Assumes nothing.
 use mathlib.Core.Path.{_≡_, refl, sym}
 use mathlib.Core.Bool.{Bool, true, false, not, _&&_, _||_, or-assoc, or-false}
 use mathlib.Core.List.{List}
@@ -16,7 +15,7 @@ use borrow.Author.Count.{below-more}
 use borrow.Author.Tests.{eq-eqb, ne-eqb, eqb-true, eqb-false}
 use Rattle.rules.specs.Table.{_!_}
 use Rattle.rules.specs.Ids.{occurs, repeats, placeOf}
-use Rattle.ids.proofs.Meaning.{occurs-at, not-occurs}
+use Rattle.rules.proofs.Ids.{occurs-at, not-occurs}
 
 -- the first i places, and i from `far` on, are looked at
 module _ (l : List ℕ) (id far : ℕ) where

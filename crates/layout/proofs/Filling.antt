@@ -1,5 +1,4 @@
 -- A part that is filled word by word; and what each part of an opening has at each place.
--- Assumes nothing.
 use mathlib.Core.Path.{_≡_, refl, sym, _∙_}
 use mathlib.Core.List.{List}
 use Prim.Native.Nat.{ℕ, _+_, _-_, _<_, _≤_}

@@ -1,4 +1,5 @@
--- Document 01, 'Opening', word by word: what `opened` has in A, R and S.
+-- Document 01, 'Changes', Opening, word by word: what `opened` has in A, R and S. With w ids A is 0 below w and b at b from there on, R has a - 1 down to
+-- w, S the ids.
 use mathlib.Core.Bool.{cond}
 use mathlib.Core.List.{List, _++_}
 use Prim.Native.Nat.{ℕ, _+_, _-_}

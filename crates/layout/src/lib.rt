@@ -2,9 +2,9 @@
 ghost use mathlib.Core.Path.{_≡_};
 ghost use Prim.Native.Nat.{_+_, _<_, _≤_, _^_};
 ghost use lib.ListN.{length, set};
-ghost use Rattle.rules.specs.Table.{base, words, tableFor};
-ghost use Rattle.rules.specs.Changes.{count, opened, openA, openR, openS, openBare};
-ghost use Rattle.parts.specs.Shape.{Shape};
+ghost use Rattle.rules.specs.Table.{base, table, words, tableFor};
+ghost use Rattle.rules.specs.Changes.{opened, openA, openR, openS, openBare};
+ghost use Rattle.rules.specs.Runs.{Shape};
 ghost use Rattle.layout.specs.Layout.{firstA, firstR, firstS, withPart};
 use parts::start;
 use steps::set_n;
@@ -31,25 +31,14 @@ fn first_s(ids: &[u32], i: usize) -> u32
     if i < ids.len() { ids[i] } else { 0 }
 }
 
-fn fill_a(part: &mut [u32], w: usize)
+// 0 below w, and b at b from there on: with w ids the part A, and with none K, where each seat has its own number, W and L, the line of all seats.
+fn fill_from(part: &mut [u32], w: usize)
     requires { ⌜ (length (now part) ≤ 2 ^ 32) × (w ≤ length (now part)) ⌝ }
     ensures { λ _. ⌜ now (part .exit) ≡ openA (length (now (part .entry))) w ⌝ }
 {
     let mut i: usize = 0;
     while i < part.len() {
         part[i] = first_a(w, i);
-        i += 1;
-    }
-}
-
-// b at b: in K each seat's own number, in W and L the line of all seats.
-fn fill_own(part: &mut [u32])
-    requires { ⌜ length (now part) ≤ 2 ^ 32 ⌝ }
-    ensures { λ _. ⌜ now (part .exit) ≡ count (length (now (part .entry))) 0 ⌝ }
-{
-    let mut i: usize = 0;
-    while i < part.len() {
-        part[i] = i as u32;
         i += 1;
     }
 }
@@ -78,20 +67,12 @@ fn fill_s(part: &mut [u32], ids: &[u32])
 }
 
 // Each part of the run is lent to its filling.
-fn open_a(t: &mut [u32], a: usize, w: usize)
-    requires { ⌜ (Shape (now t) a) × (w ≤ a) ⌝ }
-    ensures { λ _. ⌜ now (t .exit) ≡ withPart a 0 (openA a w) (now (t .entry)) ⌝ }
-{
-    let lo = start(a, parts::A);
-    fill_a(&mut t[lo..lo + a], w);
-}
-
-fn open_own(t: &mut [u32], a: usize, k: usize)
-    requires { ⌜ (Shape (now t) a) × (base a k + a ≤ length (now t)) ⌝ }
-    ensures { λ _. ⌜ now (t .exit) ≡ withPart a k (count a 0) (now (t .entry)) ⌝ }
+fn open_from(t: &mut [u32], a: usize, k: usize, w: usize)
+    requires { ⌜ (Shape (now t) a) × (base a k + a ≤ length (now t)) × (w ≤ a) ⌝ }
+    ensures { λ _. ⌜ now (t .exit) ≡ withPart a k (openA a w) (now (t .entry)) ⌝ }
 {
     let lo = start(a, k);
-    fill_own(&mut t[lo..lo + a]);
+    fill_from(&mut t[lo..lo + a], w);
 }
 
 fn open_r(t: &mut [u32], a: usize, w: usize)
@@ -121,13 +102,13 @@ fn set_head(t: &mut [u32], a: usize, w: usize)
 // All but the ids.
 pub fn lay_bare(t: &mut [u32], a: usize, w: usize)
     requires { ⌜ (Shape (now t) a) × (w ≤ a) ⌝ }
-    ensures { λ _. ⌜ now (t .exit) ≡ words (record { bare = openBare a w; S = tableFor a (now (t .entry)) .S }) ⌝ }
+    ensures { λ _. ⌜ now (t .exit) ≡ words (table (openBare a w) (tableFor a (now (t .entry)) .S)) ⌝ }
 {
     set_head(t, a, w);
-    open_a(t, a, w);
-    open_own(t, a, parts::K);
-    open_own(t, a, parts::W);
-    open_own(t, a, parts::L);
+    open_from(t, a, parts::A, w);
+    open_from(t, a, parts::K, 0);
+    open_from(t, a, parts::W, 0);
+    open_from(t, a, parts::L, 0);
     open_r(t, a, w);
 }
 

@@ -1,8 +1,7 @@
-pub mod Digits
-pub mod Got
+pub mod Numbers
 pub mod Listing
-pub mod Commands
-pub mod Long
+pub mod Starts
+pub mod KnownLines
 pub mod Tight
 pub mod Standing
 pub mod LinesOf

@@ -1,5 +1,4 @@
 -- The lines of an input are those that its bytes say: a byte more is a byte of the first line, or its end.
--- Assumes nothing.
 use mathlib.Core.Path.{_≡_, refl, ap, subst, _∙_}
 use mathlib.Core.Bool.{Bool, true, false, cond}
 use mathlib.Core.List.{List, [], _∷_, _++_, cons-ne-nil}

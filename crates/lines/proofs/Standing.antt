@@ -1,16 +1,17 @@
 -- How a caller reads what `command` leaves: the ids of an opening stand first in the lent list.
--- Assumes nothing.
 use mathlib.Core.Path.{_≡_, refl, ap}
-use mathlib.Core.Bool.{Bool, true, false, cond}
-use mathlib.Core.List.{List, []}
+use mathlib.Core.Bool.{Bool, true, false}
+use mathlib.Core.List.{List}
 use Prim.Native.Nat.{ℕ, _≤_}
 use native.Mathlib.Omega.{arith}
 use lib.ListN.{length, take, drop, length-append}
 use lib.Seq.{take-append-seam}
-use Rattle.lines.specs.Lines.{Read, got, bad, next, last, given, mostId, mostKey, idsBehind, opens, withA, starts, openWord, seatWord, outWord, findWord, Command, openLine, seatLine, outLine, findLine, unknown, commandOf}
+use Rattle.decimals.specs.Decimal.{Read, got, bad}
+use Rattle.lines.specs.Lines.{next, last, given, mostId, mostKey, idsIn, idsBehind, opens, withA, openWord, seatWord, outWord, findWord, Command, openLine, seatLine, outLine, findLine, unknown, commandOf}
 use Rattle.lines.specs.declared.Line.{Line}
 use Rattle.lines.specs.declared.Line.the-variants as line
 use Rattle.lines.specs.Readings.{idsRead, standFirst, lineFrom, IsLine}
+use Rattle.lines.proofs.Starts.{starts-cases}
 
 -- a command, its ids in a lent list
 abbrev pub lineOf : List ℕ → Line → Command
@@ -41,18 +42,20 @@ module _ (before : List ℕ) where
   opens-told a ids true = (ap (openLine a) (take-append-seam ids _), omega (arith, length-append ids (drop (length ids) before)))
   opens-told a ids false = (refl, omega arith)
 
+  withA-told : (r : Read) → Told (standFirst (idsBehind r .ids) before) (withA r)
+  withA-told bad = (refl, omega arith)
+  withA-told (got a bs) = let i = idsIn bs in opens-told a (i .ids) (i .whole)
+
   line-told : (s : List ℕ) → Told (standFirst (idsRead s) before) (commandOf s)
   unfolding commandOf idsRead
-  line-told s = go (starts openWord s) (starts seatWord s) (starts outWord s) (starts findWord s) (next mostId (drop 4 s)) (last (next mostId (drop 4 s))) (last (next mostId (drop 3 s))) (last (next mostKey (drop 4 s)))
-    where
-      go : (p q t u : Bool) (r x y z : Read)
-          → Told (standFirst (cond p (idsBehind r .ids) []) before) (cond p (withA r) (cond q (given seatLine x) (cond t (given outLine y) (cond u (given findLine z) unknown))))
-      go true q t u bad x y z = (refl, omega arith)
-      go true q t u (got a bs) x y z = let i = idsBehind (got a bs) in opens-told a (i .ids) (i .whole)
-      go false true t u r x y z = given-told before seatLine (λ v. (refl, omega arith)) x
-      go false false true u r x y z = given-told before outLine (λ v. (refl, omega arith)) y
-      go false false false true r x y z = given-told before findLine (λ v. (refl, omega arith)) z
-      go false false false false r x y z = (refl, omega arith)
+  line-told s =
+      let after = standFirst (idsRead s) before in
+      let P = Told after in
+      starts-cases P openWord s (λ e. rw e (withA-told (next mostId (drop 4 s))))
+      (starts-cases P seatWord s (λ e. given-told after seatLine (λ v. (refl, omega arith)) (last (next mostId (drop 4 s))))
+      (starts-cases P outWord s (λ e. given-told after outLine (λ v. (refl, omega arith)) (last (next mostId (drop 3 s))))
+      (starts-cases P findWord s (λ e. given-told after findLine (λ v. (refl, omega arith)) (last (next mostKey (drop 4 s))))
+      (refl, omega arith))))
 
-  pub told : (s after : List ℕ) (r : Line) → IsLine (commandOf s) (idsRead s) before (r, after) → (lineOf after r ≡ commandOf s) × (lineCount r ≤ length after)
+  pub told : (s after : List ℕ) (r : Line) → IsLine (commandOf s, idsRead s) before (r, after) → (lineOf after r ≡ commandOf s) × (lineCount r ≤ length after)
   told s after r is = rw (is .line, is .stand) (line-told s)

@@ -1,3 +1,6 @@
+-- What a reader must believe.
 pub mod Lines
-pub mod Readings
 pub mod LinesOf
+pub mod KnownLines
+-- What serves the proofs.
+pub mod Readings

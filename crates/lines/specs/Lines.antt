@@ -1,9 +1,10 @@
 -- Document 01, 'The line program': lines, words, numbers and commands.
 use mathlib.Core.Bool.{Bool, true, false, cond, _&&_}
-use mathlib.Core.List.{List, [], _∷_}
-use Prim.Native.Nat.{ℕ, zero, suc, _+_, _*_, _-_, _^_}
+use mathlib.Core.List.{List, [], _∷_, _++_}
+use Prim.Native.Nat.{ℕ, zero, suc, _-_, _^_}
 use lib.ListN.{length, drop}
-use lib.Dec.{leb, eqb}
+use lib.Dec.{eqb}
+use Rattle.decimals.specs.Decimal.{decimal, Read, got, bad, number}
 
 -- Lines end with LF; a last line without LF counts if it has a byte.
 abbrev pub joins : ℕ → List (List ℕ) → List (List ℕ)
@@ -16,37 +17,15 @@ linesOf (b ∷ bs) =
     let ls = linesOf bs in
     cond (eqb b 10) ([] ∷ ls) (joins b ls)
 
--- what is read, and what is left of the line
-pub data Read : Type 0 where
-  got : ℕ → List ℕ → Read
-  bad : Read
-
-abbrev pub isDigit : ℕ → Bool
-isDigit d = leb 48 d && leb d 57
-
--- digits up to a space or the line's end, after the value v; none above lim
-unfoldable pub digits : ℕ → ℕ → List ℕ → Read
-digits lim v [] = got v []
-digits lim v (d ∷ ds) =
-    let more = digits lim (v * 10 + (d - 48)) ds in
-    cond (eqb d 32) (got v (d ∷ ds)) (cond (isDigit d && leb (v * 10 + (d - 48)) lim) more bad)
-
--- 0 itself is allowed, and no other leading zero
-abbrev pub zeroAlone : List ℕ → Read
-zeroAlone [] = got 0 []
-zeroAlone (d ∷ ds) = cond (eqb d 32) (got 0 (d ∷ ds)) bad
-
--- Numbers are decimal, without sign or leading zeros
-unfoldable pub number : ℕ → List ℕ → Read
-unfolding digits
-number lim [] = bad
-number lim (d ∷ ds) = cond (isDigit d) (cond (eqb d 48) (zeroAlone ds) (digits lim 0 (d ∷ ds))) bad
-
 -- Words are parted by one space
+abbrev pub space : ℕ
+space = 32
+
+-- a number behind a space
 unfoldable pub next : ℕ → List ℕ → Read
 unfolding number
 next lim [] = bad
-next lim (b ∷ bs) = cond (eqb b 32) (number lim bs) bad
+next lim (b ∷ bs) = cond (eqb b space) (number space lim bs) bad
 
 -- below 2^32; a key below 2^64
 abbrev pub mostId : ℕ
@@ -94,10 +73,14 @@ idsOf zero bs = noIds false
 idsOf (suc most) [] = noIds true
 idsOf (suc most) (b ∷ bs) = withIds (next mostId (b ∷ bs)) (idsOf most)
 
--- those behind A; a line has more bytes than ids
+-- all of them: there are no more than bytes
+abbrev pub idsIn : List ℕ → Ids
+idsIn bs = idsOf (suc (length bs)) bs
+
+-- those behind A
 abbrev pub idsBehind : Read → Ids
 idsBehind bad = noIds false
-idsBehind (got a bs) = idsOf (suc (length bs)) bs
+idsBehind (got a bs) = idsIn bs
 
 abbrev pub opens : ℕ → Ids → Command
 opens a i = cond (i .whole) (openLine a (i .ids)) unknown
@@ -134,3 +117,8 @@ commandOf l =
     (cond (starts outWord l) (given outLine (last (next mostId (drop 3 l))))
     (cond (starts findWord l) (given findLine (last (next mostKey (drop 4 l))))
     unknown)))
+
+-- numbers as they are printed, each behind a space
+unfoldable pub spaced : List ℕ → List ℕ
+spaced [] = []
+spaced (v ∷ vs) = space ∷ decimal v ++ spaced vs

@@ -1,5 +1,4 @@
 -- Both rules agree, since they go from seat to seat together.
--- Assumes nothing.
 use Rattle.lookups.specs.BothRules.{BothRules}
 use Rattle.lookups.proofs.Finds.{every}
 

@@ -1,5 +1,4 @@
 -- The draws are few, since A falls at each redraw and is at least N until it is 0.
--- Assumes nothing.
 use native.Mathlib.Omega.{arith}
 use Rattle.lookups.specs.FewDraws.{FewDraws}
 use Rattle.lookups.proofs.Finds.{every}

@@ -1,6 +1,5 @@
 -- The two rules go from seat to seat together: at a seat out of use the walk ends at the seat that stood at the position drawn.
 -- A falls at each redraw, and is at least N until it is 0; so the redraws end on a seat in use, and are a - N at most.
--- Assumes nothing.
 use mathlib.Core.Path.{_≡_, refl, sym, subst}
 use mathlib.Core.List.{List, []}
 use mathlib.Core.Logic.{inl, inr}
@@ -10,6 +9,7 @@ use native.Mathlib.Decide.{ℕ-discrete}
 use borrow.Author.Tests.{ne-eqb}
 use Rattle.rules.specs.Table.{_!_, Bare}
 use Rattle.rules.specs.Keys.{Move, full, movesOf, since, Found, on, draw, Looked, found, lookup}
+use Rattle.rules.proofs.Accepts.{opening}
 use Rattle.sound.specs.Kept.{Kept}
 use Rattle.rules.proofs.Lists.{zeros-at}
 use Rattle.sound.proofs.Passes.{test-full}
@@ -65,7 +65,7 @@ every T r pick first picks i =
     let ms = movesOf (r .a) (r .ids) (r .history) in
     let g = reached-kept r in
     let run = history-leads r in
-    let lines = lines-since run (test-full (r .a) (omega (arith, r .opens))) (λ x. []) (λ x q h. absurd (omega (arith, zeros-at (r .a) x))) in
+    let lines = lines-since run (test-full (r .a) (omega (arith, opening (r .opens)))) (λ x. []) (λ x q h. absurd (omega (arith, zeros-at (r .a) x))) in
     let low : U .A ! first < U .seats = elim (g .order .each first i) [ inl z ↦ omega arith | inr o ↦ o .1 ] in
     finds U ms pick picks g (subst (λ (a : ℕ). Lines U (λ x. since x [] (full a) ms)) (sym (leads-seats run)) lines)
     (U .A ! first) (U .seats) (U .seats - U .used) 1 first i (omega arith) (omega arith) (omega arith)

@@ -1,6 +1,5 @@
 -- A walk from a position of the line ends at the seat that stands there. So it is in a full table, where no step is taken; and when b
 -- leaves, the walk that ended at b goes on by K to the seat that takes its place, and the others end as they did.
--- Assumes nothing.
 use mathlib.Core.Path.{_≡_, sym, ap, _∙_, subst}
 use mathlib.Core.List.{List}
 use Prim.Native.Nat.{ℕ, zero, suc, _-_, _<_, _≤_}
@@ -8,9 +7,9 @@ use native.Mathlib.Omega.{arith}
 use native.Mathlib.Decide.{ℕ-discrete}
 use lib.ListN.{length-set}
 use Rattle.rules.specs.Table.{_!_, Bare}
-use Rattle.rules.specs.Changes.{out}
+use Rattle.rules.specs.Changes.{out, Leaves}
 use Rattle.rules.specs.Keys.{at, full}
-use Rattle.sound.specs.Kept.{Kept, Leaves}
+use Rattle.sound.specs.Kept.{Kept}
 use Rattle.sound.specs.Canonical.{after, Takeable}
 use Rattle.sound.specs.Test.{Test}
 use Rattle.rules.proofs.Lists.{own-at}

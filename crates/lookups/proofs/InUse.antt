@@ -1,5 +1,4 @@
 -- The seat found is in use, since a rule ends only there; and on a sound table a seat in use has an id.
--- Assumes nothing.
 use Rattle.sound.proofs.Reached.{passes}
 use Rattle.lookups.specs.InUse.{InUse}
 use Rattle.lookups.proofs.Finds.{every}

@@ -1,21 +1,19 @@
 -- Every accepted history is a run of moves that a full table allows: first the seats unused at opening leave, and then each accepted
 -- change is an allowed move.
--- Assumes nothing.
 use mathlib.Core.Path.{_≡_, refl, _∙_, subst}
 use mathlib.Core.List.{List, [], _∷_, _++_, map}
 use Prim.Native.Nat.{ℕ, zero, suc, _+_, _-_, _<_}
 use native.Mathlib.Omega.{arith}
 use lib.ListN.{length, replicate, List·getD-append}
 use Rattle.rules.specs.Table.{_!_, Bare, Table}
-use Rattle.rules.specs.Changes.{down, opened, out, seat}
+use Rattle.rules.specs.Changes.{down, opened, out, seat, Leaves}
 use Rattle.rules.specs.History.{Change, taking, seating, Opens, run, Accepted, done, then, Reached}
 use Rattle.rules.specs.Keys.{Move, leave, return, move, full, movesOf}
-use Rattle.sound.specs.Kept.{Leaves}
 use Rattle.sound.specs.Canonical.{after, Takeable}
 use Rattle.rules.proofs.Lists.{length-down, down-at}
 use Rattle.sound.proofs.Made.{fewer-still, after-is, next-leaves}
 use Rattle.sound.proofs.Audit.{R-takeable, as-made}
-use Rattle.sound.proofs.Reached.{Passes, leaves, changed-passes, opened-passes}
+use Rattle.sound.proofs.Reached.{Passes, leaves, room, changed-passes, opened-passes}
 
 -- moves that a table allows, and the table that they lead to
 pub data Leads : Bare → List Move → Bare → Type 0 where
@@ -31,7 +29,7 @@ leads-seats (returned h r) = leads-seats r
 changes-lead : {T : Table} {h : List Change} → Accepted T h → Passes T → Leads (T .bare) (map move h) (run T h .bare)
 changes-lead done p = none
 changes-lead (then {c = taking id b} s ok) p = left (leaves p s) (changes-lead ok (changed-passes (taking id b) p s))
-changes-lead (then {c = seating id b} s ok) p = returned (s .room) (changes-lead ok (changed-passes (seating id b) p s))
+changes-lead (then {c = seating id b} s ok) p = returned (room p s) (changes-lead ok (changed-passes (seating id b) p s))
 
 -- taking out seats from the last one down
 module _ {ms : List Move} {U : Bare} (a : ℕ) (rs : List ℕ) (m : ℕ) (t : Takeable a rs m) (isDown : (i : ℕ) → i < m → rs ! i ≡ a - 1 - i) (r : Leads (after a rs m) ms U) where

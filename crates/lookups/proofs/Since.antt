@@ -1,6 +1,5 @@
 -- From each position of the line just after a seat was last taken out, the walk for that seat's A ends at the seat that stood there.
 -- A removal adds the line that it leaves; and neither it nor its undoing is seen by the walks for earlier ones.
--- Assumes nothing.
 use mathlib.Core.Path.{_≡_, sym, ap, _∙_, subst}
 use mathlib.Core.Bool.{cond}
 use mathlib.Core.List.{List}
@@ -11,9 +10,9 @@ use lib.Seq.{getD-take}
 use lib.Dec.{eqb}
 use borrow.Author.Tests.{eq-eqb, ne-eqb}
 use Rattle.rules.specs.Table.{_!_, Bare}
-use Rattle.rules.specs.Changes.{out, seat, lastOut}
+use Rattle.rules.specs.Changes.{out, seat, lastOut, Leaves}
 use Rattle.rules.specs.Keys.{Move, line, since, at}
-use Rattle.sound.specs.Kept.{Kept, Leaves}
+use Rattle.sound.specs.Kept.{Kept}
 use Rattle.sound.specs.Test.{Test}
 use Rattle.rules.proofs.Lists.{differ}
 use Rattle.sound.proofs.Written.{Written, written}

@@ -1,6 +1,5 @@
 -- Taking b out moves only keys that were on b: every walk that a lookup made before ends where it did, so the lookup runs as it did
 -- until it meets b. Seating is the same read backwards.
--- Assumes nothing.
 use mathlib.Core.Path.{_≡_, refl, ap, _∙_, subst}
 use mathlib.Core.Logic.{_⊎_, inl, inr}
 use Prim.Native.Nat.{ℕ, zero, suc, _+_}
@@ -8,12 +7,12 @@ use native.Mathlib.Decide.{ℕ-discrete}
 use lib.ListN.{length}
 use borrow.Author.Tests.{ne-eqb}
 use Rattle.rules.specs.Table.{_!_, Bare}
-use Rattle.rules.specs.Changes.{out, seat, lastOut}
+use Rattle.rules.specs.Changes.{out, seat, lastOut, Leaves}
 use Rattle.rules.specs.Keys.{Found, on, Walk, at, lost, Looked, found, onward, lookup, arrayRule}
-use Rattle.sound.specs.Kept.{Kept, Leaves}
+use Rattle.sound.specs.Kept.{Kept}
 use Rattle.sound.proofs.Written.{Written, written}
 use Rattle.sound.proofs.Steps.{kept, seat-passes, seat-leaves, out-of-seat}
-use Rattle.sound.proofs.Reached.{passes, leaves, reached-kept}
+use Rattle.sound.proofs.Reached.{passes, leaves, room, reached-kept}
 use Rattle.lookups.specs.Stay.{OnlyOn, TakingOutKeeps, SeatingKeeps}
 use Rattle.rules.proofs.Walks.{lookup-here}
 use Rattle.lookups.proofs.Walks.{walkIn, gone, length-out, walk-out}
@@ -74,9 +73,10 @@ taking-out T id b pick first r s =
 pub seating : SeatingKeeps
 seating T id b pick first r s =
     let t = passes r .test in
+    let h = room (passes r) s in
     let U = seat (T .bare) in
-    let g = kept U (seat-passes (T .bare) t (s .room)) in
-    let v = seat-leaves (T .bare) t (s .room) in
+    let g = kept U (seat-passes (T .bare) t h) in
+    let v = seat-leaves (T .bare) t h in
     let b′ = lastOut (T .bare) in
-    rw (← (s .isLast)) (subst (λ (X : Bare). OnlyOn b′ (arrayRule U pick first) (arrayRule X pick first)) (out-of-seat (T .bare) t (s .room))
+    rw (← (s .isLast)) (subst (λ (X : Bare). OnlyOn b′ (arrayRule U pick first) (arrayRule X pick first)) (out-of-seat (T .bare) t h)
     (only-on U b′ g v (written g v) pick first))

@@ -1,6 +1,5 @@
 -- Walks along K, before and after a change. Taking b out is not seen by a walk for m if fewer than m are in use then: it stops at b
 -- before and after.
--- Assumes nothing.
 use mathlib.Core.Path.{_≡_, sym, _∙_}
 use mathlib.Core.Logic.{_≢_, inl, inr}
 use Prim.Native.Nat.{ℕ, zero, suc, _-_, _<_, _≤_}
@@ -8,10 +7,10 @@ use native.Mathlib.Omega.{arith}
 use native.Mathlib.Decide.{ℕ-discrete, decLt}
 use lib.ListN.{length, length-set, List·getD-eq-default}
 use Rattle.rules.specs.Table.{_!_, Bare}
-use Rattle.rules.specs.Changes.{out}
+use Rattle.rules.specs.Changes.{out, Leaves}
 use Rattle.rules.specs.Keys.{Walk, at, walk}
 use Rattle.rules.proofs.Walks.{never, stops, goes, comes-zero, comes-suc, walk-stops, walk-goes}
-use Rattle.sound.specs.Kept.{Kept, Leaves}
+use Rattle.sound.specs.Kept.{Kept}
 use Rattle.rules.proofs.Lists.{differ}
 use Rattle.sound.proofs.Written.{Written}
 

@@ -7,5 +7,6 @@ pub record Few (a N d : ℕ) : Type 0 where
   pub some : 1 ≤ d
   pub most : d ≤ 1 + (a - N)
 
+-- the set rule's draws, which are the array rule's (`BothRules`)
 abbrev pub FewDraws : Type 0
 FewDraws = EveryTable (λ T looked f. Few (T .bare .seats) (T .bare .used) (f .draws))

@@ -12,5 +12,6 @@ pub record Serves (T : Table) (f : Found) : Type 0 where
   pub inUse : T .bare .A ! f .seat ≡ 0
   pub server : T .S ! f .seat ≢ 0
 
+-- so neither rule ends at a seat without a server
 abbrev pub InUse : Type 0
 InUse = EveryTable (λ T looked f. Serves T f)

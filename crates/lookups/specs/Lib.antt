@@ -1,3 +1,4 @@
+-- What a reader must believe.
 -- What is promised of finding a key, in the words of document 01 and the demands.
 pub mod EveryTable
 pub mod BothRules

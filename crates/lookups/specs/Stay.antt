@@ -15,11 +15,13 @@ pub record OnlyOn (b : ℕ) (with without : Looked) : Type 0 where
   -- so a key that is on another seat keeps its seat and its draws
   pub others : (x d : ℕ) → x ≢ b → with ≡ found (on x d) → without ≡ found (on x d)
 
+-- b is in use before it is taken out
 abbrev pub TakingOutKeeps : Type 0
 TakingOutKeeps =
     (T : Table) (id b : ℕ) (pick : ℕ → ℕ → ℕ) (first : ℕ) → Reached T → Takes T id b
     → OnlyOn b (arrayRule (T .bare) pick first) (arrayRule (takeOut T b .bare) pick first)
 
+-- b is in use after the seating
 abbrev pub SeatingKeeps : Type 0
 SeatingKeeps =
     (T : Table) (id b : ℕ) (pick : ℕ → ℕ → ℕ) (first : ℕ) → Reached T → Seats T id b

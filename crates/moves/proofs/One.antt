@@ -1,5 +1,4 @@
 -- The promise of seating leaves one outcome.
--- Assumes nothing.
 use mathlib.Core.Path.{sym, _∙_}
 use Prim.Native.Nat.{ℕ}
 use Rattle.promises.specs.One.{One}

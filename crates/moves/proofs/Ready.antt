@@ -1,5 +1,4 @@
--- In a table that a history leaves each place that a change stores to is in the run.
--- Assumes nothing.
+-- In a table that passes the audit's test each place that a change stores to is in the run.
 use mathlib.Core.Path.{_≡_, sym}
 use mathlib.Core.Logic.{_≢_}
 use Prim.Native.Nat.{ℕ, _-_, _<_}
@@ -8,10 +7,9 @@ use native.Mathlib.Decide.{ℕ-discrete}
 use lib.ListN.{length, set}
 use lib.Seq.{getD-set-same, getD-set-other}
 use Rattle.rules.specs.Table.{_!_, Bare}
-use Rattle.rules.specs.Changes.{lastOut}
-use Rattle.sound.specs.Kept.{Kept}
+use Rattle.rules.specs.Changes.{lastOut, Leaves}
 use Rattle.sound.specs.Test.{Test, Cut, stood, moved}
-use Rattle.moves.specs.Moves.{CanTake, CanSeat}
+use Rattle.sound.proofs.Steps.{kept}
 
 -- the seat taken out last stood last, or what stood last took its place
 last-below : (T : Bare) (b : ℕ) → Cut T (T .used) b → b < T .seats → T .W ! T .used < T .seats
@@ -29,19 +27,28 @@ position-below T b c room size low = elim (ℕ-discrete b (T .W ! T .used)) [
     under (stood e) ne = absurd (ne (sym e))
     under (moved low below o) ne = omega arith
 
-pub can-seat : (T : Bare) → Test T → T .used < T .seats → CanSeat T
-can-seat T t room =
-    let i = T .seats - T .used - 1 in
-    let b = t .order .taken i (omega arith) .0 in
-    let at : T .seats - 1 - i ≡ T .used = omega arith in
-    let c : Cut T (T .used) (lastOut T) = rw at at (t .cut i (omega arith)) in
-    let low = last-below T (lastOut T) c b in
-    record { room = room; seat = b; last = low; position = position-below T (lastOut T) c room (t .shape .lenL) low }
+-- what stands where a change reads is in the run
+module _ {T : Bare} (t : Test T) where
+  module _ (room : T .used < T .seats) where
+    last : Cut T (T .used) (lastOut T)
+    last =
+        let i = T .seats - T .used - 1 in
+        let at : T .seats - 1 - i ≡ T .used = omega arith in
+        rw at at (t .cut i (omega arith))
 
--- a seat in use stands in the line
-pub can-leave : {T : Bare} {b : ℕ} → Kept T → b < T .seats → T .A ! b ≡ 0 → CanTake T b
-can-leave {T} {b} k below in-use =
-    let s = k .seated b below in-use in
-    let some = k .shape .some in
-    let most = k .shape .most in
-    record { seat = below; some = some; most = most; position = omega arith; last = k .line (T .used - 1) (omega arith) .0 }
+    pub last-out-below : lastOut T < T .seats
+    last-out-below = t .order .taken (T .seats - T .used - 1) (omega arith) .0
+
+    pub next-below : T .W ! T .used < T .seats
+    next-below = last-below T (lastOut T) last last-out-below
+
+    pub back-below : set (T .L) (T .W ! T .used) (T .used) ! lastOut T < T .seats
+    back-below = position-below T (lastOut T) last room (t .shape .lenL) next-below
+
+  -- a seat in use stands in the line
+  module _ {b : ℕ} (v : Leaves T b) where
+    pub place-below : T .L ! b < T .seats
+    place-below = omega (arith, kept T t .seated b (v .below) (v .inUse) .1, t .shape .most)
+
+    pub end-below : T .W ! (T .used - 1) < T .seats
+    end-below = kept T t .line (T .used - 1) (omega (arith, t .shape .some)) .0

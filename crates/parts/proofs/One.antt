@@ -1,5 +1,4 @@
 -- The promises of the reads that answer a part, a seat or a position leave one outcome.
--- Assumes nothing.
 use mathlib.Core.List.{List}
 use Prim.Native.Nat.{ℕ}
 use Rattle.promises.specs.One.{One}

@@ -1,12 +1,12 @@
 -- What `size_of` tells of a run.
--- Assumes nothing.
 use mathlib.Core.Path.{_≡_, refl}
 use mathlib.Core.Bool.{Bool, true, false, cond}
 use mathlib.Core.List.{List}
-use Prim.Native.Nat.{ℕ, _≤_}
+use Prim.Native.Nat.{ℕ}
 use native.Mathlib.Omega.{arith}
 use Rattle.rules.specs.Table.{_!_, legal}
-use Rattle.parts.specs.Shape.{sizeOf, Shape}
+use Rattle.rules.specs.Runs.{Legal}
+use Rattle.parts.specs.Shape.{sizeOf}
 use Rattle.parts.specs.declared.Size.the-variants.{Is, Illegal}
 use Rattle.rules.proofs.Words.{is-legal}
 
@@ -26,17 +26,6 @@ legal-seats w a e = go (legal w) e
     go true e = (refl, cc)
     go false e = let z : _≡_ {A = ℕ} 0 1 = cc in absurd (omega arith)
 
-pub shaped : (w : List ℕ) → legal w ≡ true → Shape w (w ! 0)
-shaped w e = let l = is-legal w e in record { size = l .size; most = l .most }
-
 -- all that it tells where it answers a
-pub record Told (w : List ℕ) (a : ℕ) : Type 0 where
-  pub isLegal : legal w ≡ true
-  pub first : w ! 0 ≡ a
-  pub shape : Shape w a
-  pub some : 1 ≤ a
-
-pub told-seats : (w : List ℕ) (a : ℕ) → sizeOf w ≡ Is a → Told w a
-told-seats w a e =
-    let l = legal-seats w a e in
-    record { isLegal = l .0; first = l .1; shape = rw (l .1) at (shaped w (l .0)); some = rw (l .1) at (is-legal w (l .0) .some) }
+pub told-seats : (w : List ℕ) (a : ℕ) → sizeOf w ≡ Is a → (legal w ≡ true) × Legal w a
+told-seats w a e = let l = legal-seats w a e in (l .0, rw (l .1) at (is-legal w (l .0)))

@@ -1,10 +1,10 @@
--- A run's shape, as the functions that work on its parts ask for it.
+-- A run's shape (document 01, 'The table'), as the functions that work on its parts ask for it.
 use mathlib.Core.Path.{_≡_}
 use mathlib.Core.Bool.{cond}
 use mathlib.Core.List.{List}
 use Prim.Native.Nat.{ℕ, _+_, _<_, _≤_}
 use lib.ListN.{length}
-use Rattle.rules.specs.Table.{_!_, base, part, runLength, mostSeats, legal}
+use Rattle.rules.specs.Table.{_!_, base, part, legal}
 use Rattle.rules.specs.declared.Seat.{Seat}
 use Rattle.rules.specs.declared.Position.{Position}
 use Rattle.parts.specs.declared.Size.{Size}
@@ -13,11 +13,6 @@ use Rattle.parts.specs.declared.Size.the-variants.{Is, Illegal}
 -- a run's seats, where its shape is legal
 unfoldable pub sizeOf : List ℕ → Size
 sizeOf w = cond (legal w) (Is (w ! 0)) Illegal
-
--- a run for a seats
-pub record Shape (w : List ℕ) (a : ℕ) : Type 0 where
-  pub size : length w ≡ runLength a
-  pub most : a ≤ mostSeats
 
 -- place i of part k, where the part ends within the run
 pub record Lent (w : List ℕ) (a k i : ℕ) : Type 0 where

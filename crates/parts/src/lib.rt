@@ -3,7 +3,8 @@ ghost use mathlib.Core.Path.{_≡_};
 ghost use Prim.Native.Nat.{_+_, _<_, _≤_, _^_};
 ghost use lib.ListN.{length};
 ghost use Rattle.rules.specs.Table.{_!_, base, part, tableFor};
-ghost use Rattle.parts.specs.Shape.{sizeOf, Shape, Lent, Lends, IsSeat, IsPosition};
+ghost use Rattle.rules.specs.Runs.{Shape};
+ghost use Rattle.parts.specs.Shape.{sizeOf, Lent, Lends, IsSeat, IsPosition};
 use rules::MOST_SEATS;
 use rules::Position;
 use rules::Seat;
@@ -132,7 +133,7 @@ pub fn get_s(t: &[u32], a: usize, b: Seat) -> u32
     word(t, a, S, b.0 as usize)
 }
 
-// The words before the parts: a, and N.
+// The words before the parts.
 pub fn get_seats(t: &[u32]) -> u32
     requires { ⌜ 0 < length (now t) ⌝ }
     ensures { λ r. ⌜ r ≡ now (t .entry) ! 0 ⌝ }

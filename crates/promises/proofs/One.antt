@@ -1,5 +1,4 @@
 -- The shapes of a promise that leave one outcome. `o ≡ x` is the promise of every function whose outcome is given outright.
--- Assumes nothing.
 use mathlib.Core.Path.{_≡_, refl, sym, _∙_}
 use mathlib.Core.Bool.{Bool, true, false}
 use Rattle.promises.specs.One.{One}

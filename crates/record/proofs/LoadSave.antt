@@ -1,5 +1,4 @@
 -- The run that was loaded holds the record's table, whose record the bytes are.
--- Assumes nothing.
 use mathlib.Core.Path.{_≡_, refl, sym, ap, _∙_, subst}
 use mathlib.Core.List.{List, [], _∷_, _++_}
 use Prim.Native.Nat.{ℕ, _≤_}
@@ -21,8 +20,8 @@ theorem s w out r size room =
     let same : recordOf (tableOf (words T)) ≡ s = ap recordOf (tableOf-words T (sized (r .reached))) ∙ r .isRecord in
     record {
       built = words T;
-      loads = sym (load-is w s r size);
+      loads = sym (load-is w r size);
       saves =
-          sym (save-is (words T) sound out (subst (λ (x : List ℕ). length x ≤ length out) (sym same) room))
+          sym (save-is sound refl out (subst (λ (x : List ℕ). length x ≤ length out) (sym same) room))
           ∙ ap (λ (x : List ℕ). done (length x ∷ []) (x ++ drop (length x) out)) same;
     }

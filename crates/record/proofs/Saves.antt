@@ -1,9 +1,7 @@
 -- What each way out of a save answers. The record's three runs of bytes follow each other, so they are the record whole.
--- Assumes nothing.
-use mathlib.Core.Path.{_≡_, refl, sym, ap, ap₂, _∙_, subst}
-use mathlib.Core.Bool.{true}
+use mathlib.Core.Path.{_≡_, sym, ap, ap₂, _∙_}
 use mathlib.Core.List.{List, [], _∷_, _++_}
-use Prim.Native.Nat.{ℕ, _*_, _-_, _<_, _≤_}
+use Prim.Native.Nat.{ℕ, _+_, _-_, _<_, _≤_}
 use native.Mathlib.Nat.{zero-add}
 use native.Mathlib.Omega.{arith}
 use lib.ListN.{length, drop}
@@ -12,21 +10,19 @@ use lib.Dec.{ltb}
 use borrow.Author.Tests.{lt-ltb, le-ltb}
 use Rattle.rules.specs.Table.{_!_, Table, tableOf}
 use Rattle.rules.specs.History.{Sound}
-use Rattle.rules.specs.Answers.{refused, refusedAt, done, _⇒_}
+use Rattle.rules.specs.Answers.{refused, Outcome, refusedAt, done, _⇒_, none, more}
 use Rattle.rules.specs.declared.Refusal.{Refusal}
 use Rattle.rules.specs.declared.Refusal.the-variants.{Room}
-use Rattle.rules.proofs.Words.{legal-is}
-use Rattle.parts.specs.Shape.{Shape}
+use Rattle.rules.proofs.Occasions.{here, first-is, free-is}
 use Rattle.sound.proofs.Reached.{Passes, passes}
 use Rattle.sound.proofs.Sound.{sound-legal, sound-table}
 use Rattle.audit.specs.Audit.{auditCall}
-use Rattle.audit.proofs.Told.{refused-first}
-use Rattle.audit.proofs.Answers.{is-sound}
-use Rattle.saved.specs.Record.{field, headRecord, each, removalRecord, seatRecord, recordOf}
-use Rattle.saved.specs.Reader.{outAt, inAt}
-use Rattle.saved.specs.Length.{recordLength}
-use Rattle.saved.proofs.Ranks.{rank-all, length-seats}
-use Rattle.saved.proofs.Holds.{length-removals, length-recordOf}
+use Rattle.audit.proofs.Told.{refused-first, sound-later, sound-free}
+use Rattle.fields.specs.declared.Form.{Form}
+use Rattle.fields.specs.Form.{formFor, outAt, inAt}
+use Rattle.saved.specs.Record.{headRecord, each, removalRecord, seatRecord, recordIn, recordOf}
+use Rattle.saved.proofs.Ranks.{rank-all, seats-end}
+use Rattle.saved.proofs.Holds.{head-end, removals-end, length-recordIn}
 use Rattle.record.specs.Calls.{saveCall}
 use Rattle.record.proofs.Putting.{put-then}
 
@@ -36,54 +32,58 @@ save-refused w out r =
     let s = recordOf (tableOf w) in
     refused-first w out (ltb (length out) (length s) ⇒ Room ∷ []) (done (length s ∷ []) (s ++ drop (length s) out)) r
 
-module _ (w : List ℕ) (s : Sound w) where
+module _ {w : List ℕ} (s : Sound w) {f : Form} (own : formFor (w ! 0) ≡ f) where
   abbrev T : Table
   T = tableOf w
+
+  abbrev m : ℕ
+  m = w ! 0 - w ! 1
+
+  abbrev r : List ℕ
+  r = recordOf T
 
   good : Passes T
   good = passes (sound-table s)
 
+  in-form : r ≡ recordIn f T
+  in-form = ap (λ (g : Form). recordIn g T) own
+
+  size : length r ≡ inAt f m (w ! 1)
+  size = ap length in-form ∙ length-recordIn f T good
+
   -- what the code asks of a sound run
-  pub record Known : Type 0 where
-    pub shape : Shape w (w ! 0)
-    pub long : 1 < length w
-    pub fit : w ! 1 ≤ w ! 0
-    pub ins : length (each (seatRecord T) (w ! 0)) ≡ 8 * w ! 1
+  pub long : 1 < length w
+  long = omega (arith, sound-legal s .shape)
 
-  pub known : Known
-  known =
-      let l = sound-legal s in
-      record {
-        shape = record { size = l .size; most = l .most };
-        long = omega (arith, l .size);
-        fit = good .test .shape .most;
-        ins = length-seats T (w ! 0) ∙ ap (λ (n : ℕ). 8 * n) (rank-all (T .bare) (good .test));
-      }
+  pub fewer : w ! 1 ≤ w ! 0
+  fewer = good .test .shape .most
 
-  pub save-room : (out : List ℕ) → length out < recordLength (w ! 0) (w ! 1) → refusedAt out Room ≡ saveCall w out
+  pub ins-end : outAt f m + length (each (seatRecord f T) (w ! 0)) ≡ inAt f m (w ! 1)
+  ins-end = seats-end f T m (w ! 0) ∙ ap (inAt f m) (rank-all (T .bare) (good .test))
+
+  abbrev saves : List ℕ → Outcome
+  saves out = done (length r ∷ []) (r ++ drop (length r) out)
+
+  pub save-room : (out : List ℕ) → length out < inAt f m (w ! 1) → refusedAt out Room ≡ saveCall w out
   unfolding saveCall
-  save-room out h =
-      let short : ltb (length out) (length (recordOf T)) ≡ true = lt-ltb _ _ (subst (λ (n : ℕ). length out < n) (sym (length-recordOf T good)) h) in
-      rw (legal-is w (sound-legal s), is-sound w s, short)
+  save-room out h = first-is (refusedAt out) (saves out) (sound-later s {r = Room} (here {os = []} (lt-ltb (length out) (length r) (omega (arith, size)))))
 
-  pub save-is : (out : List ℕ) → length (recordOf T) ≤ length out → done (length (recordOf T) ∷ []) (recordOf T ++ drop (length (recordOf T)) out) ≡ saveCall w out
+  pub save-is : (out : List ℕ) → length r ≤ length out → saves out ≡ saveCall w out
   unfolding saveCall
-  save-is out h = rw (legal-is w (sound-legal s), is-sound w s, le-ltb (length out) (length (recordOf T)) h) refl
+  save-is out h = free-is (refusedAt out) (saves out) (sound-free s (more {r = Room} (le-ltb (length out) (length r) h) none))
 
-  pub save-done : (out o₁ o₂ o₃ : List ℕ) → recordLength (w ! 0) (w ! 1) ≤ length out
-      → o₁ ≡ sets out 0 (headRecord field (w ! 0) (w ! 1))
-      → o₂ ≡ sets o₁ (outAt 0) (each (removalRecord T) (w ! 0 - w ! 1))
-      → o₃ ≡ sets o₂ (inAt (w ! 0 - w ! 1) 0) (each (seatRecord T) (w ! 0))
-      → done (recordLength (w ! 0) (w ! 1) ∷ []) o₃ ≡ saveCall w out
-  unfolding recordOf
+  pub save-done : (out o₁ o₂ o₃ : List ℕ) → inAt f m (w ! 1) ≤ length out
+      → o₁ ≡ sets out 0 (headRecord f (w ! 0) (w ! 1))
+      → o₂ ≡ sets o₁ (outAt f 0) (each (removalRecord f T) m)
+      → o₃ ≡ sets o₂ (outAt f m) (each (seatRecord f T) (w ! 0))
+      → done (inAt f m (w ! 1) ∷ []) o₃ ≡ saveCall w out
+  unfolding recordIn
   save-done out o₁ o₂ o₃ h e₁ e₂ e₃ =
-      let m = w ! 0 - w ! 1 in
-      let head = headRecord field (w ! 0) (w ! 1) in
-      let outs = each (removalRecord T) m in
-      let ins = each (seatRecord T) (w ! 0) in
-      let size = length-recordOf T good in
-      let bodied : o₃ ≡ sets o₁ (outAt 0) (outs ++ ins) = put-then o₁ o₂ o₃ (outAt 0) (inAt m 0) outs ins (omega (arith, length-removals T m)) e₂ e₃ in
-      let whole : o₃ ≡ sets out 0 (recordOf T) = put-then out o₁ o₃ 0 (outAt 0) head (outs ++ ins) refl e₁ bodied in
-      let written : o₃ ≡ recordOf T ++ drop (length (recordOf T)) out = whole ∙ sets-eq (recordOf T) out 0 (omega arith) ∙ ap (λ (n : ℕ). recordOf T ++ drop n out) (zero-add (length (recordOf T))) in
+      let head = headRecord f (w ! 0) (w ! 1) in
+      let outs = each (removalRecord f T) m in
+      let ins = each (seatRecord f T) (w ! 0) in
+      let bodied : o₃ ≡ sets o₁ (outAt f 0) (outs ++ ins) = put-then o₁ o₂ o₃ (outAt f 0) (outAt f m) outs ins (sym (removals-end f T m)) e₂ e₃ in
+      let whole : o₃ ≡ sets out 0 r = put-then out o₁ o₃ 0 (outAt f 0) head (outs ++ ins) (sym (head-end f T)) e₁ bodied ∙ ap (sets out 0) (sym in-form) in
+      let written : o₃ ≡ r ++ drop (length r) out = whole ∙ sets-eq r out 0 (omega (arith, size)) ∙ ap (λ (n : ℕ). r ++ drop n out) (zero-add (length r)) in
       ap₂ (λ (n : ℕ) (o : List ℕ). done (n ∷ []) o) (sym size) written
-      ∙ save-is out (omega arith)
+      ∙ save-is out (omega (arith, size))

@@ -7,6 +7,9 @@ pub mod Parts
 pub mod Words
 -- Laws of keys.
 pub mod Walks
--- Laws of answers.
+-- Laws of ids and answers.
+pub mod Ids
+pub mod Occasions
+pub mod Accepts
 pub mod Numbers
 pub mod One

@@ -1,16 +1,19 @@
 -- Laws of lists of words that the library lacks.
--- Assumes nothing.
 use mathlib.Core.Path.{_≡_, refl, sym, ap, _∙_}
 use mathlib.Core.List.{List, [], _∷_, _++_}
 use Prim.Native.Nat.{ℕ, zero, suc, _+_, _-_, _<_, _≤_}
 use native.Mathlib.Nat.{add-zero}
 use native.Mathlib.Omega.{arith}
-use native.Mathlib.Decide.{ℕ-discrete}
+use native.Mathlib.Decide.{ℕ-discrete, decLt}
 use lib.ListN.{length, set, replicate}
 use lib.Seq.{getD-set-other, set-getD, set-set, sets}
 use mathlib.Core.Logic.{_≢_}
 use Rattle.rules.specs.Table.{_!_}
 use Rattle.rules.specs.Changes.{count, down}
+
+-- neither number is below the other
+pub not-apart : (x y : ℕ) → (x < y → ⊥) → (y < x → ⊥) → x ≡ y
+not-apart x y p q = elim (decLt x y) [ yes l ↦ absurd (p l) | no l ↦ elim (decLt y x) [ yes m ↦ absurd (q m) | no m ↦ omega arith ] ]
 
 pub length-count : (n i : ℕ) → length (count n i) ≡ n
 length-count zero i = refl

@@ -1,5 +1,4 @@
 -- A refusal's number says which refusal it is, and is not the number of an answer that is fine.
--- Assumes nothing.
 use mathlib.Core.Path.{_≡_, refl, sym, ap, _∙_}
 use mathlib.Core.List.{List, [], _∷_}
 use Prim.Native.Nat.{ℕ, _<_}

@@ -1,5 +1,4 @@
 -- Where answers tell results apart, a promise of answers leaves one outcome.
--- Assumes nothing.
 use mathlib.Core.Path.{_≡_, sym, ap, _∙_}
 use mathlib.Core.List.{List, [], _∷_}
 use Prim.Native.Nat.{ℕ}

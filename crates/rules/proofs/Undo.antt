@@ -1,11 +1,11 @@
 -- Seating undoes taking out: each word that taking b out wrote is written again, with what stood there before. L[W[N]] is one of them.
--- Assumes nothing.
-use mathlib.Core.Path.{_≡_, ap, _∙_}
+use mathlib.Core.Path.{_≡_, ap, ap₂, _∙_}
+use mathlib.Core.List.{List}
 use Prim.Native.Nat.{ℕ, _+_, _-_, _≤_}
 use native.Mathlib.Omega.{arith}
 use lib.ListN.{length, set}
 use lib.Seq.{getD-set-same, set-set}
-use Rattle.rules.specs.Table.{_!_, Bare, Table}
+use Rattle.rules.specs.Table.{_!_, Bare, Table, withBare, withIds}
 use Rattle.rules.specs.Changes.{out, seat, lastOut, takeOut, seatId}
 use Rattle.rules.proofs.Lists.{keeps, set-back}
 
@@ -60,7 +60,7 @@ module _ {T : Bare} {b : ℕ} (s : Undoable T b) where
       })
 
 -- with the ids: every word is as it was, except the id in that one seat
-pub undo-id : (T : Table) (b id : ℕ) → Undoable (T .bare) b → seatId (takeOut T b) id ≡ record { bare = T .bare; S = set (T .S) b id }
+pub undo-id : (T : Table) (b id : ℕ) → Undoable (T .bare) b → seatId (takeOut T b) id ≡ withIds T (set (T .S) b id)
 undo-id T b id s =
     let S-back = ap (λ (x : ℕ). set (set (T .S) b 0) x id) (last-out s) ∙ set-set (T .S) b 0 id in
-    λ i. record { bare = undo s i; S = S-back i }
+    ap₂ (λ (B : Bare) (S : List ℕ). withIds (withBare T B) S) (undo s) S-back

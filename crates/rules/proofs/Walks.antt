@@ -1,5 +1,4 @@
 -- Walks along K for m, which follow while A is m or more: a law for each way that a walk ends or goes on.
--- Assumes nothing.
 use mathlib.Core.Path.{_≡_, refl}
 use mathlib.Core.Bool.{Bool, true, false}
 use mathlib.Core.List.{List}

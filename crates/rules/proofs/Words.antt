@@ -1,42 +1,56 @@
 -- A table and its run of words: each reads back as the other, and a store into a part is a store into the run.
--- Assumes nothing.
 use mathlib.Core.Path.{_≡_, refl, sym, ap, ap₂, _∙_, subst}
 use mathlib.Core.Bool.{true, _&&_}
-use mathlib.Core.List.{List, [], _∷_, _++_}
-use Prim.Native.Nat.{ℕ, suc, _+_, _*_, _-_, _<_, _≤_}
+use mathlib.Core.List.{List, [], _∷_, _++_, append-nil, append-assoc}
+use Prim.Native.Nat.{ℕ, zero, suc, _+_, _*_, _-_, _<_, _≤_}
 use native.Mathlib.Nat.{mul-le-mul-right, suc-mul, min-eq-left}
 use native.Mathlib.Omega.{arith}
-use lib.ListN.{length, take, drop, getD, set, length-take, length-drop, take-append-drop, drop-of-length-le}
-use lib.Seq.{drop-drop, getD-take, getD-drop}
+use lib.ListN.{length, take, drop, getD, set, length-take, length-drop, length-set, take-append-drop, drop-of-length-le}
+use lib.Seq.{drop-drop, getD-take, getD-drop, set-append-left, take-append-add, drop-append-add}
 use lib.Dec.{leb, eqb}
 use borrow.Author.Tests.{eq-eqb, le-leb, leb-true, eqb-true}
 use Rattle.promises.proofs.Decided.{both}
-use Rattle.rules.specs.Table.{_!_, Table, parts, joined, words, base, runLength, mostSeats, part, tableFor, tableOf, legal}
-use Rattle.rules.proofs.Parts.{All, none, more, set-joined, part-joined, All-set, length-joined, joined-with, All-with}
+use Rattle.rules.specs.Table.{_!_, Table, head, parts, front, partCount, joined, words, base, runLength, mostSeats, part, tableFor, tableOf, legal}
+use Rattle.rules.specs.Runs.{Legal}
+use Rattle.rules.proofs.Parts.{All, none, more, set-append-add, set-joined, part-joined, All-set, length-joined, joined-with, All-with}
 
 -- a run of legal shape
-pub record Legal (w : List ℕ) : Type 0 where
-  pub some : 1 ≤ w ! 0
-  pub most : w ! 0 ≤ mostSeats
-  pub size : length w ≡ runLength (w ! 0)
-
-pub is-legal : (w : List ℕ) → legal w ≡ true → Legal w
+pub is-legal : (w : List ℕ) → legal w ≡ true → Legal w (w ! 0)
 is-legal w e =
-    let h₁ = both (leb 2 (length w) && leb 1 (w ! 0) && leb (w ! 0) mostSeats) (eqb (length w) (runLength (w ! 0))) e in
-    let h₂ = both (leb 2 (length w) && leb 1 (w ! 0)) (leb (w ! 0) mostSeats) (h₁ .0) in
-    let h₃ = both (leb 2 (length w)) (leb 1 (w ! 0)) (h₂ .0) in
-    record { some = leb-true 1 (w ! 0) (h₃ .1); most = leb-true (w ! 0) mostSeats (h₂ .1); size = eqb-true _ _ (h₁ .1) }
+    let h₁ = both (leb front (length w) && leb 1 (w ! 0) && leb (w ! 0) mostSeats) (eqb (length w) (runLength (w ! 0))) e in
+    let h₂ = both (leb front (length w) && leb 1 (w ! 0)) (leb (w ! 0) mostSeats) (h₁ .0) in
+    let h₃ = both (leb front (length w)) (leb 1 (w ! 0)) (h₂ .0) in
+    record { first = refl; some = leb-true 1 (w ! 0) (h₃ .1); shape = record { size = eqb-true _ _ (h₁ .1); most = leb-true (w ! 0) mostSeats (h₂ .1) } }
 
-pub legal-is : (w : List ℕ) → Legal w → legal w ≡ true
-legal-is w h = simp (le-leb 2 (length w) (omega arith), le-leb 1 (w ! 0) (h .some), le-leb (w ! 0) mostSeats (h .most), eq-eqb (length w) (runLength (w ! 0)) (h .size))
+pub legal-is : (w : List ℕ) → Legal w (w ! 0) → legal w ≡ true
+legal-is w h =
+    simp (le-leb front (length w) (omega arith), le-leb 1 (w ! 0) (h .some), le-leb (w ! 0) mostSeats (h .shape .most), eq-eqb (length w) (runLength (w ! 0)) (h .shape .size))
 
--- a part and what follows it
-fold : (w : List ℕ) (lo a next : ℕ) (rest : List ℕ) → lo + a ≡ next → rest ≡ drop next w → take a (drop lo w) ++ rest ≡ drop lo w
-fold w lo a next rest h e =
-    ap (λ (l : List ℕ). take a (drop lo w) ++ l) (e ∙ ap (λ (n : ℕ). drop n w) (sym h) ∙ sym (drop-drop a lo w))
-    ∙ take-append-drop a (drop lo w)
+next : (a k : ℕ) → base a k + a ≡ base a (suc k)
+next a k = omega (arith, suc-mul k a)
 
-headed : (w : List ℕ) → 2 ≤ length w → w ! 0 ∷ w ! 1 ∷ drop 2 w ≡ w
+-- n parts from part k on
+module _ (w : List ℕ) (a : ℕ) where
+  abbrev slices : ℕ → ℕ → List (List ℕ)
+  slices k zero = []
+  slices k (suc n) = part a k w ∷ slices (suc k) n
+
+  joined-slices : (n k m : ℕ) → k + n ≡ m → joined (slices k n) ++ drop (base a m) w ≡ drop (base a k) w
+  joined-slices zero k m h = let e : k ≡ m = omega arith in rw e refl
+  joined-slices (suc n) k m h =
+      append-assoc (part a k w) (joined (slices (suc k) n)) (drop (base a m) w)
+      ∙ ap (λ (l : List ℕ). part a k w ++ l) (joined-slices n (suc k) m (omega arith) ∙ ap (λ (i : ℕ). drop i w) (sym (next a k)) ∙ sym (drop-drop a (base a k) w))
+      ∙ take-append-drop a (drop (base a k) w)
+
+  sized-slices : (n k : ℕ) → base a (k + n) ≤ length w → All a (slices k n)
+  sized-slices zero k h = none
+  sized-slices (suc n) k h =
+      let more-parts : base a (suc k) ≤ base a (k + suc n) = let fewer : suc k ≤ k + suc n = omega arith in omega (arith, mul-le-mul-right a fewer) in
+      let same : suc k + n ≡ k + suc n = omega arith in
+      let long : length (part a k w) ≡ a = simp (length-take, length-drop) (min-eq-left (omega (arith, next a k))) in
+      more long (sized-slices n (suc k) (rw same h))
+
+headed : (w : List ℕ) → front ≤ length w → head (tableOf w) ++ drop front w ≡ w
 headed [] h = absurd (omega arith)
 headed (x ∷ []) h = absurd (omega arith)
 headed (x ∷ y ∷ r) h = refl
@@ -45,82 +59,94 @@ headed (x ∷ y ∷ r) h = refl
 pub words-tableOf : (w : List ℕ) → length w ≡ runLength (w ! 0) → words (tableOf w) ≡ w
 words-tableOf w size =
     let a = w ! 0 in
-    let first : base a 0 ≡ 2 = omega arith in
-    let next : (p : ℕ) → base a p + a ≡ base a (suc p) = λ p. omega (arith, suc-mul p a) in
-    ap (λ (l : List ℕ). w ! 0 ∷ w ! 1 ∷ l)
-    (fold w (base a 0) a _ _ (next 0)
-    (fold w (base a 1) a _ _ (next 1)
-    (fold w (base a 2) a _ _ (next 2)
-    (fold w (base a 3) a _ _ (next 3)
-    (fold w (base a 4) a _ _ (next 4)
-    (fold w (base a 5) a _ _ (next 5)
-    (sym (drop-of-length-le w {i = runLength a} (omega arith))))))))
-    ∙ ap (λ (n : ℕ). drop n w) first)
-    ∙ headed w (omega arith)
+    let first : base a 0 ≡ front = omega arith in
+    let all : joined (parts (tableOf w)) ≡ drop front w =
+    sym (append-nil (joined (parts (tableOf w))))
+    ∙ ap (λ (l : List ℕ). joined (parts (tableOf w)) ++ l) (sym (drop-of-length-le w {i = runLength a} (omega arith)))
+    ∙ joined-slices w a partCount 0 partCount refl
+    ∙ ap (λ (n : ℕ). drop n w) first in
+    ap (λ (l : List ℕ). head (tableOf w) ++ l) all ∙ headed w (omega arith)
 
-past : (k a i : ℕ) → base a k + i ≡ suc (suc (k * a + i))
-past k a i = omega arith
+pub sized-tableOf : (w : List ℕ) → length w ≡ runLength (w ! 0) → All (w ! 0) (parts (tableOf w))
+sized-tableOf w size = sized-slices w (w ! 0) partCount 0 (omega arith)
+
+-- the run w holds the head h and the parts ps, each of a words
+pub record Holds (w h : List ℕ) (a : ℕ) (ps : List (List ℕ)) : Type 0 where
+  pub is : w ≡ h ++ joined ps
+  pub fronts : length h ≡ front
+  pub sized : All a ps
+
+pub holds-words : (T : Table) (a : ℕ) → All a (parts T) → Holds (words T) (head T) a (parts T)
+holds-words T a all = record { is = refl; fronts = refl; sized = all }
+
+pub holds-table : (w : List ℕ) (a : ℕ) → w ! 0 ≡ a → length w ≡ runLength a → Holds w (head (tableFor a w)) a (parts (tableFor a w))
+holds-table w a first size =
+    subst (λ (n : ℕ). Holds w (head (tableFor n w)) n (parts (tableFor n w))) first
+    (let long : length w ≡ runLength (w ! 0) = rw first size in record { is = sym (words-tableOf w long); fronts = refl; sized = sized-tableOf w long })
+
+module _ {w h : List ℕ} {a : ℕ} {ps : List (List ℕ)} (holds : Holds w h a ps) where
+  past : (k i : ℕ) → base a k + i ≡ length h + (k * a + i)
+  past k i = omega (arith, holds .fronts)
+
+  begins : (k : ℕ) → base a k ≡ length h + k * a
+  begins k = omega (arith, holds .fronts)
+
+  pub holds-part : (k : ℕ) → k < length ps → part a k w ≡ getD ps k []
+  holds-part k hk = rw (holds .is, begins k, drop-append-add h (joined ps) (k * a)) (part-joined (holds .sized) k hk)
+
+module _ {w w′ h : List ℕ} {a : ℕ} {ps : List (List ℕ)} (holds : Holds w h a ps) where
+  -- a store at i of the head, and at i of part k
+  pub holds-head : (i v : ℕ) → i < front → w′ ≡ set w i v → Holds w′ (set h i v) a ps
+  holds-head i v hi e =
+      record {
+        is = e ∙ ap (λ (l : List ℕ). set l i v) (holds .is) ∙ set-append-left h (joined ps) i v (omega (arith, holds .fronts));
+        fronts = length-set h i v ∙ holds .fronts;
+        sized = holds .sized;
+      }
+
+  pub holds-put : (k i v : ℕ) → k < length ps → i < a → w′ ≡ set w (base a k + i) v → Holds w′ h a (set ps k (set (getD ps k []) i v))
+  holds-put k i v hk hi e =
+      record {
+        is =
+            e
+            ∙ ap₂ (λ (l : List ℕ) (n : ℕ). set l n v) (holds .is) (past holds k i)
+            ∙ set-append-add h (joined ps) (k * a + i) v
+            ∙ ap (λ (l : List ℕ). h ++ l) (set-joined (holds .sized) k i v hk hi);
+        fronts = holds .fronts;
+        sized = All-set (holds .sized) k i v;
+      }
+
+  -- part k replaced
+  pub holds-with : (k : ℕ) (new : List ℕ) → k < length ps → length new ≡ a
+      → w′ ≡ take (base a k) w ++ (new ++ drop (base a k + a) w) → Holds w′ h a (set ps k new)
+  holds-with k new hk long e =
+      record {
+        is =
+            e
+            ∙ rw (← drop-drop a (base a k) w, holds .is, begins holds k, take-append-add h (joined ps) (k * a), drop-append-add h (joined ps) (k * a))
+            (append-assoc h _ _ ∙ ap (λ (l : List ℕ). h ++ l) (joined-with new (holds .sized) k hk));
+        fronts = holds .fronts;
+        sized = All-with new long (holds .sized) k;
+      }
 
 -- a table whose parts are a words each, written out, reads back
 pub tableOf-words : (T : Table) → All (T .bare .seats) (parts T) → tableOf (words T) ≡ T
 tableOf-words T all =
-    let same : (k : ℕ) → k < 6 → part (T .bare .seats) k (words T) ≡ getD (parts T) k [] = λ k h.
-    let two : base (T .bare .seats) k ≡ suc (suc (k * T .bare .seats)) = omega arith in
-    rw two (part-joined all k h) in
+    let same : (k : ℕ) → k < partCount → part (T .bare .seats) k (words T) ≡ getD (parts T) k [] = λ k h. holds-part (holds-words T (T .bare .seats) all) k h in
     λ i. record {
       bare = record { seats = T .bare .seats; used = T .bare .used; A = same 0 (omega arith) i; K = same 1 (omega arith) i; W = same 2 (omega arith) i; L = same 3 (omega arith) i; R = same 4 (omega arith) i };
       S = same 5 (omega arith) i;
     }
 
 -- a part ends within the run
-pub part-fits : (a k : ℕ) → k < 6 → base a k + a ≤ runLength a
+pub part-fits : (a k : ℕ) → k < partCount → base a k + a ≤ runLength a
 part-fits a k h = omega (arith, mul-le-mul-right a h, suc-mul k a)
 
-pub part-length : (w : List ℕ) (k : ℕ) → length w ≡ runLength (w ! 0) → k < 6 → length (part (w ! 0) k w) ≡ w ! 0
+pub part-length : (w : List ℕ) (k : ℕ) → length w ≡ runLength (w ! 0) → k < partCount → length (part (w ! 0) k w) ≡ w ! 0
 part-length w k size h = simp (length-take, length-drop, size) (min-eq-left (omega (arith, part-fits (w ! 0) k h)))
-
-pub sized-tableOf : (w : List ℕ) → length w ≡ runLength (w ! 0) → All (w ! 0) (parts (tableOf w))
-sized-tableOf w size =
-    let long : (k : ℕ) → k < 6 → length (part (w ! 0) k w) ≡ w ! 0 = λ k h. part-length w k size h in
-    more (long 0 (omega arith)) (more (long 1 (omega arith)) (more (long 2 (omega arith)) (more (long 3 (omega arith)) (more (long 4 (omega arith)) (more (long 5 (omega arith)) none)))))
 
 pub length-words : (T : Table) → All (T .bare .seats) (parts T) → length (words T) ≡ runLength (T .bare .seats)
 length-words T all = omega (arith, length-joined all)
-
--- the run w holds s, u and the parts ps, each of a words
-pub record Holds (w : List ℕ) (s u a : ℕ) (ps : List (List ℕ)) : Type 0 where
-  pub is : w ≡ s ∷ u ∷ joined ps
-  pub sized : All a ps
-
-pub holds-table : (w : List ℕ) (a : ℕ) → w ! 0 ≡ a → length w ≡ runLength a → Holds w a (w ! 1) a (parts (tableFor a w))
-holds-table w a first size =
-    subst (λ (n : ℕ). Holds w n (w ! 1) n (parts (tableFor n w))) first
-    (let long : length w ≡ runLength (w ! 0) = rw first size in record { is = sym (words-tableOf w long); sized = sized-tableOf w long })
-
-module _ {w w′ : List ℕ} {s u a : ℕ} {ps : List (List ℕ)} (h : Holds w s u a ps) where
-  -- a store at i of part k
-  pub holds-put : (k i v : ℕ) → k < length ps → i < a → w′ ≡ set w (base a k + i) v → Holds w′ s u a (set ps k (set (getD ps k []) i v))
-  holds-put k i v hk hi e =
-      record {
-        is = e ∙ ap₂ (λ (l : List ℕ) (n : ℕ). set l n v) (h .is) (past k a i) ∙ ap (λ (l : List ℕ). s ∷ u ∷ l) (set-joined (h .sized) k i v hk hi);
-        sized = All-set (h .sized) k i v;
-      }
-
-  -- part k replaced
-  pub holds-with : (k : ℕ) (new : List ℕ) → k < length ps → length new ≡ a
-      → w′ ≡ take (base a k) w ++ (new ++ drop (base a k + a) w) → Holds w′ s u a (set ps k new)
-  holds-with k new hk long e =
-      let two : base a k ≡ suc (suc (k * a)) = omega arith in
-      record { is = e ∙ rw (← drop-drop a (base a k) w, h .is, two) (ap (λ (l : List ℕ). s ∷ u ∷ l) (joined-with new (h .sized) k hk)); sized = All-with new long (h .sized) k }
-
-  -- a store of N
-  pub holds-count : (n : ℕ) → w′ ≡ set w 1 n → Holds w′ s n a ps
-  holds-count n e = record { is = e ∙ ap (λ (l : List ℕ). set l 1 n) (h .is); sized = h .sized }
-
-pub holds-part : {w : List ℕ} {s u a : ℕ} {ps : List (List ℕ)} → Holds w s u a ps → (k : ℕ) → k < length ps → part a k w ≡ getD ps k []
-holds-part {a = a} h k hk =
-    let two : base a k ≡ suc (suc (k * a)) = omega arith in
-    rw (h .is, two) (part-joined (h .sized) k hk)
 
 -- a part's word is a word of the run
 pub part-word : (w : List ℕ) (a k i : ℕ) → i < a → part a k w ! i ≡ w ! (base a k + i)

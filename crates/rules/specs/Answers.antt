@@ -1,11 +1,14 @@
 -- Document 01, 'Numbers a call can answer'.
 use mathlib.Core.Path.{_≡_}
-use mathlib.Core.Bool.{Bool, cond}
+use mathlib.Core.Bool.{Bool, false, cond}
 use mathlib.Core.List.{List, [], _∷_}
 use Prim.Native.Nat.{ℕ}
 use Rattle.rules.specs.declared.Refusal.{Refusal}
 use Rattle.rules.specs.declared.Refusal.the-variants.{Size, Count, Id, Twice, Damaged, Full, Absent, Last, Room, Form}
 
+-- SIZE: the run's length or a is not a table's. COUNT: no id, or more than seats. ID: an id is 0. TWICE: an id is there already. DAMAGED: the table is
+-- not sound, or a lookup is lost in it. FULL: no seat is free. ABSENT: the id is not seated. LAST: the only server. ROOM: the output is too short.
+-- FORM: the bytes are no record.
 abbrev pub numberOf : Refusal → ℕ
 numberOf Size = 1
 numberOf Count = 2
@@ -65,3 +68,8 @@ firstThat [] refuse x = x
 firstThat ((applies ⇒ r) ∷ os) refuse x =
     let more = firstThat os refuse x in
     cond applies (refuse r) more
+
+-- none of them applies
+pub data Free : List Occasion → Type 0 where
+  none : Free []
+  more : {applies : Bool} {r : Refusal} {os : List Occasion} → applies ≡ false → Free os → Free ((applies ⇒ r) ∷ os)

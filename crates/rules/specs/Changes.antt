@@ -1,8 +1,9 @@
 -- Document 01, 'Changes': what opening, taking out and seating leave, word by word.
+use mathlib.Core.Path.{_≡_}
 use mathlib.Core.List.{List, [], _∷_, _++_}
-use Prim.Native.Nat.{ℕ, zero, suc, _+_, _-_}
+use Prim.Native.Nat.{ℕ, zero, suc, _+_, _-_, _<_, _≤_}
 use lib.ListN.{length, set, replicate}
-use Rattle.rules.specs.Table.{_!_, Bare, Table}
+use Rattle.rules.specs.Table.{_!_, Bare, Table, table, withBare, withIds}
 
 -- i, i + 1, .. : n numbers
 abbrev pub count : ℕ → ℕ → List ℕ
@@ -28,10 +29,12 @@ openBare a w = record { seats = a; used = w; A = openA a w; K = count a 0; W = c
 abbrev pub openS : ℕ → List ℕ → List ℕ
 openS a ids = ids ++ replicate (a - length ids) 0
 
+-- Opening: N is the number of ids
 unfoldable pub opened : ℕ → List ℕ → Table
-opened a ids = record { bare = openBare a (length ids); S = openS a ids }
+opened a ids = table (openBare a (length ids)) (openS a ids)
 
--- Taking out the seat b, with the ids set aside
+-- Taking out the seat b, with the ids set aside: b goes behind the others in R, N falls by 1, and A[b] is the new N. The seat that stood last in the line,
+-- W[N], takes b's position: K[b] is that seat, W has it at the position that L has for b, and L has that position for it.
 abbrev pub out : Bare → ℕ → Bare
 out T b =
     let N = T .used - 1 in
@@ -47,11 +50,18 @@ out T b =
       R = set (T .R) (T .seats - T .used) b;
     }
 
+-- the seat b may be taken out: it is in use, and not the only one
+pub record Leaves (T : Bare) (b : ℕ) : Type 0 where
+  pub below : b < T .seats
+  pub inUse : T .A ! b ≡ 0
+  pub two : 2 ≤ T .used
+
 -- the last entry of R
 abbrev pub lastOut : Bare → ℕ
 lastOut T = T .R ! (T .seats - T .used - 1)
 
--- Seating the last seat out, with the ids set aside
+-- Seating the last seat out, with the ids set aside: its word in R becomes 0 and its A too. The seat that stood last when it left, W[N], has its own
+-- position N back; then the seat stands where L has it and is its own successor, and N rises by 1.
 abbrev pub seat : Bare → Bare
 seat T =
     let N = T .used in
@@ -67,10 +77,10 @@ seat T =
       R = set (T .R) (T .seats - N - 1) 0;
     }
 
--- Taking out the seat b of an id
+-- Taking out the seat b of an id: the seat has no server then
 abbrev pub takeOut : Table → ℕ → Table
-takeOut T b = record { bare = out (T .bare) b; S = set (T .S) b 0 }
+takeOut T b = withIds (withBare T (out (T .bare) b)) (set (T .S) b 0)
 
--- Seating an id
+-- Seating an id: the seat that was taken out last gets it
 abbrev pub seatId : Table → ℕ → Table
-seatId T id = record { bare = seat (T .bare); S = set (T .S) (lastOut (T .bare)) id }
+seatId T id = withIds (withBare T (seat (T .bare))) (set (T .S) (lastOut (T .bare)) id)

@@ -4,7 +4,7 @@ use mathlib.Core.List.{List, [], _∷_}
 use Prim.Native.Nat.{ℕ, suc}
 use lib.Dec.{eqb}
 
--- is the id among them
+-- is the id among them: TWICE of an id that is to be seated, and where it is not, ABSENT of one to be taken out; of 0 in an opening's list, ID
 unfoldable pub occurs : ℕ → List ℕ → Bool
 occurs id [] = false
 occurs id (x ∷ l) = eqb x id || occurs id l
@@ -15,7 +15,7 @@ unfolding occurs
 repeats [] = false
 repeats (x ∷ l) = (not (eqb x 0) && occurs x l) || repeats l
 
--- where the id stands first
+-- where the id stands first: the seat of a server
 unfoldable pub placeOf : ℕ → List ℕ → ℕ
 placeOf id [] = 0
 placeOf id (x ∷ l) =

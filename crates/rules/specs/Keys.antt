@@ -10,14 +10,14 @@ use Rattle.rules.specs.Table.{_!_, Bare}
 use Rattle.rules.specs.Changes.{count, down, out, seat}
 use Rattle.rules.specs.History.{Change, taking, seating}
 
--- The paper's hash(k) and hash(b, k)
+-- The paper's hash(k) and hash(b, k): output 1 and output b + 1 of SplitMix64 started at the key k
 abbrev pub hash₁ : ℕ → ℕ
 hash₁ k = output 1 k
 
 abbrev pub hash : ℕ → ℕ → ℕ
 hash b k = output (b + 1) k
 
--- what a key draws
+-- what a key draws: a first seat among a, and at seat b, which is out of use, a position among n, which is A[b]
 abbrev pub firstOf : ℕ → ℕ → ℕ
 firstOf k a = hash₁ k % a
 
@@ -55,6 +55,7 @@ since b l T [] = l
 since b l T (leave c ∷ ms) = since b (cond (eqb c b) (line (out T c)) l) (out T c) ms
 since b l T (return ∷ ms) = since b l (seat T) ms
 
+-- a seat, and draws: how many hashes were taken, 1 and one for each redraw
 pub record Found : Type 0 where
   pub seat : ℕ
   pub draws : ℕ
@@ -72,14 +73,18 @@ module _ (T : Bare) (ms : List Move) (pick : ℕ → ℕ → ℕ) where
       let more = draw fuel (d + 1) next in
       cond (eqb (T .A ! b) 0) (on b d) more
 
+  -- the first seat is the first draw
   abbrev pub setRule : ℕ → Found
   setRule first = draw (T .seats) 1 first
 
--- By the arrays
+-- By the arrays, on any table: from seat b the walk begins at h, the position drawn, read as a seat, and follows K while A[h] >= A[b]. It is lost, which
+-- is DAMAGED, where h is a or more, or where it followed K a times and would again. (That the final seat has no server is the third occasion: crate
+-- `find`.)
 pub data Walk : Type 0 where
   at : ℕ → Walk
   lost : Walk
 
+-- what the arrays lead to
 pub data Looked : Type 0 where
   found : Found → Looked
   damaged : Looked

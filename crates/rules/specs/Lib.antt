@@ -1,8 +1,11 @@
--- What a reader must believe, in the order of document 01.
+-- What a reader must believe.
 pub mod Table
 pub mod Changes
-pub mod History
-pub mod Keys
 pub mod Ids
 pub mod Answers
+pub mod History
+pub mod Asks
+pub mod Keys
 pub mod Examples
+-- What serves the proofs.
+pub mod Runs

@@ -36,9 +36,29 @@ pub record Table : Type 0 where
   pub bare : Bare
   pub S : List ℕ
 
--- the parts, in their order
+abbrev pub table : Bare → List ℕ → Table
+table B S = record { bare = B; S = S }
+
+-- T with other words but the ids, and with other ids: a change is said by these, so that a further field of the table is one that it keeps
+abbrev pub withBare : Table → Bare → Table
+withBare T B = record { bare = B; S = T .S }
+
+abbrev pub withIds : Table → List ℕ → Table
+withIds T S = record { bare = T .bare; S = S }
+
+-- the words before the parts, and the parts in their order
+abbrev pub head : Table → List ℕ
+head T = T .bare .seats ∷ T .bare .used ∷ []
+
 abbrev pub parts : Table → List (List ℕ)
 parts T = T .bare .A ∷ T .bare .K ∷ T .bare .W ∷ T .bare .L ∷ T .bare .R ∷ T .S ∷ []
+
+-- how many there are of each
+abbrev pub front : ℕ
+front = 2
+
+abbrev pub partCount : ℕ
+partCount = 6
 
 -- lists one after the other
 abbrev pub joined : List (List ℕ) → List ℕ
@@ -47,14 +67,14 @@ joined (p ∷ ps) = p ++ joined ps
 
 -- a table as a run of words
 abbrev pub words : Table → List ℕ
-words T = T .bare .seats ∷ T .bare .used ∷ joined (parts T)
+words T = head T ++ joined (parts T)
 
 -- where part p of a table of a seats begins, and how long its run is
 abbrev pub base : ℕ → ℕ → ℕ
-base a p = 2 + p * a
+base a p = front + p * a
 
 abbrev pub runLength : ℕ → ℕ
-runLength a = base a 6
+runLength a = base a partCount
 
 abbrev pub mostSeats : ℕ
 mostSeats = 2048
@@ -65,12 +85,11 @@ part a p w = take a (drop (base a p) w)
 
 -- a run of words read as a table: of a seats, and of as many as its word 0 says
 abbrev pub tableFor : ℕ → List ℕ → Table
-tableFor a w =
-    record { bare = record { seats = a; used = w ! 1; A = part a 0 w; K = part a 1 w; W = part a 2 w; L = part a 3 w; R = part a 4 w }; S = part a 5 w }
+tableFor a w = table (record { seats = a; used = w ! 1; A = part a 0 w; K = part a 1 w; W = part a 2 w; L = part a 3 w; R = part a 4 w }) (part a 5 w)
 
 abbrev pub tableOf : List ℕ → Table
 tableOf w = tableFor (w ! 0) w
 
 -- legal shape: a from 1 to 2,048, and the run is 2 + 6a words; a run shorter than two words is not
 abbrev pub legal : List ℕ → Bool
-legal w = leb 2 (length w) && leb 1 (w ! 0) && leb (w ! 0) mostSeats && eqb (length w) (runLength (w ! 0))
+legal w = leb front (length w) && leb 1 (w ! 0) && leb (w ! 0) mostSeats && eqb (length w) (runLength (w ! 0))

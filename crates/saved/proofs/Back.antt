@@ -1,7 +1,6 @@
 -- Reading undoes writing: `tableFrom` gives a reached table back from its record, because each field reads back and the
 -- removals make the rest. So each table has one record, each record one table, and whether bytes are a record is decided.
--- Assumes nothing.
-use mathlib.Core.Path.{_≡_, refl, sym, ap, _∙_, subst}
+use mathlib.Core.Path.{_≡_, refl, sym, ap, ap₂, _∙_, subst}
 use mathlib.Core.List.{List, List-discrete}
 use mathlib.Core.Logic.{Dec·and}
 use Prim.Native.Nat.{ℕ, _-_, _<_, _≤_}
@@ -9,19 +8,23 @@ use native.Mathlib.Omega.{arith}
 use native.Mathlib.Decide.{ℕ-discrete, map-dec}
 use lib.Seq.{ext-getD}
 use borrow.Author.Tests.{eq-eqb, ne-eqb}
-use Rattle.rules.specs.Table.{_!_, Bare, Table}
+use Rattle.rules.specs.Table.{_!_, Bare, Table, table}
 use Rattle.rules.specs.History.{Reached}
 use Rattle.sound.specs.Canonical.{after}
 use Rattle.sound.proofs.Made.{after-first}
 use Rattle.sound.proofs.Audit.{as-made}
-use Rattle.sound.proofs.Reached.{Passes, passes}
+use Rattle.sound.proofs.Reached.{Passes, passes, alike}
 use Rattle.sound.proofs.Sound.{reached?}
-use Rattle.saved.specs.Record.{recordOf, IsRecord}
-use Rattle.saved.specs.Reader.{listed, leftAt, serverOf, bareFrom, tableFrom}
+use Rattle.fields.specs.Numbers.{Stands}
+use Rattle.fields.specs.declared.Form.{Form}
+use Rattle.fields.specs.declared.Form.the-variants.{Short}
+use Rattle.fields.specs.Form.{headMark, formFor}
+use Rattle.saved.specs.Record.{recordIn, recordOf, IsRecord}
+use Rattle.saved.specs.Reader.{listed, markedForm, leftAt, serverOf, bareFrom, tableIn, tableFrom}
 use Rattle.saved.proofs.Each.{length-listed, listed-at}
-use Rattle.saved.proofs.Holds.{seats-is, used-is, left-is, server-is}
+use Rattle.saved.proofs.Holds.{head-mark, seats-is, used-is, left-is, server-is}
 
-module _ (T : Table) (p : Passes T) (s : List ℕ) (is : recordOf T ≡ s) where
+module _ (f : Form) (T : Table) (p : Passes T) (own : formFor (T .bare .seats) ≡ f) (s : List ℕ) (is : recordIn f T ≡ s) where
   abbrev a : ℕ
   a = T .bare .seats
 
@@ -29,39 +32,57 @@ module _ (T : Table) (p : Passes T) (s : List ℕ) (is : recordOf T ≡ s) where
   m = T .bare .seats - T .bare .used
 
   -- the removals up to i make what R's first i make
-  pub bare-after : (i : ℕ) → i ≤ m → bareFrom s a m i ≡ after a (T .bare .R) i
+  pub bare-after : (i : ℕ) → i ≤ m → bareFrom f s a m i ≡ after a (T .bare .R) i
   unfolding bareFrom
-  bare-after i h = after-first a (listed (leftAt s) m) (T .bare .R) i (λ j l. listed-at (leftAt s) m j (omega arith) ∙ left-is T p s is j (omega arith))
+  bare-after i h = after-first a (listed (leftAt f s) m) (T .bare .R) i (λ j l. listed-at (leftAt f s) m j (omega arith) ∙ left-is f T p own s is j (omega arith))
 
-  pub bare-back : bareFrom s a m m ≡ T .bare
+  pub bare-back : bareFrom f s a m m ≡ T .bare
   bare-back = bare-after m (omega arith) ∙ sym (as-made (T .bare) (p .test))
 
-  servers-back : listed (serverOf s m (T .bare .A)) a ≡ T .S
+  servers-back : listed (serverOf f s m (T .bare .A)) a ≡ T .S
   servers-back =
       ext-getD 0 _ (T .S) (length-listed _ a ∙ sym (p .ids .size)) (λ b h.
-      let below : b < a = omega (arith, length-listed (serverOf s m (T .bare .A)) a) in
-      listed-at (serverOf s m (T .bare .A)) a b below
+      let below : b < a = omega (arith, length-listed (serverOf f s m (T .bare .A)) a) in
+      listed-at (serverOf f s m (T .bare .A)) a b below
       ∙ elim (ℕ-discrete (T .bare .A ! b) 0) [
-        | yes z ↦ rw (eq-eqb (T .bare .A ! b) 0 z) (server-is T p s is b below z)
+        | yes z ↦ rw (eq-eqb (T .bare .A ! b) 0 z) (server-is f T p own s is b below z)
         | no ne ↦ rw (ne-eqb (T .bare .A ! b) 0 ne) (sym (p .ids .none b below (omega arith)))
       ])
 
-  pub back : tableFrom s ≡ T
-  unfolding tableFrom
+  pub back : tableIn f s a (T .bare .used) ≡ T
+  unfolding tableIn
   back =
-      rw (seats-is T p s is, used-is T p s is)
-      (let F : (B : Bare) → Table = λ B. record { bare = B; S = listed (serverOf s m (B .A)) a } in
-      ap F bare-back ∙ (λ i. record { bare = T .bare; S = servers-back i }))
+      ap (λ (B : Bare). table B (listed (serverOf f s m (B .A)) a)) bare-back ∙ alike refl servers-back
+
+-- the mark names the form
+pub marked : (f : Form) (s : List ℕ) → Stands s 0 (headMark f) → markedForm s ≡ f
+unfolding markedForm
+marked Short s h = refl
 
 -- so each record is that of one table
-pub record-back : (T : Table) → Reached T → tableFrom (recordOf T) ≡ T
-record-back T r = back T (passes r) (recordOf T) refl
+module _ {s : List ℕ} (r : IsRecord s) where
+  pub named : markedForm s ≡ formFor (r .table .bare .seats)
+  named = marked _ s (head-mark _ (r .table) (passes (r .reached)) refl s (r .isRecord))
+
+  module _ {f : Form} (own : formFor (r .table .bare .seats) ≡ f) where
+    pub in-form : recordIn f (r .table) ≡ s
+    in-form = ap (λ (g : Form). recordIn g (r .table)) (sym own) ∙ r .isRecord
+
+    pub record-read : tableIn f s (r .table .bare .seats) (r .table .bare .used) ≡ r .table
+    record-read = back f (r .table) (passes (r .reached)) own s in-form
+
+  pub record-table : tableFrom s ≡ r .table
+  record-table =
+      let p = passes (r .reached) in
+      let f = markedForm s in
+      let own = sym named in
+      ap₂ (tableIn f s) (seats-is f (r .table) p own s (in-form own)) (used-is f (r .table) p own s (in-form own))
+      ∙ record-read own
 
 pub one-table : (T U : Table) → Reached T → Reached U → recordOf T ≡ recordOf U → T ≡ U
-one-table T U r q e = sym (record-back T r) ∙ ap tableFrom e ∙ record-back U q
-
-pub record-table : {s : List ℕ} (r : IsRecord s) → tableFrom s ≡ r .table
-record-table {s} r = back (r .table) (passes (r .reached)) s (r .isRecord)
+one-table T U r q e =
+    sym (record-table (record { table = T; reached = r; isRecord = refl }))
+    ∙ record-table (record { table = U; reached = q; isRecord = sym e })
 
 pub record? : (s : List ℕ) → Dec (IsRecord s)
 record? s =

@@ -1,5 +1,4 @@
 -- Records one after the other: how long they are, and what stands where. By induction on how many there are.
--- Assumes nothing.
 use mathlib.Core.Path.{_≡_, refl, _∙_}
 use mathlib.Core.List.{List, [], _∷_}
 use Prim.Native.Nat.{ℕ, zero, suc, _+_, _*_, _<_, _≤_}
@@ -8,9 +7,10 @@ use native.Mathlib.Decide.{ℕ-discrete}
 use lib.ListN.{length, length-append, List·getD-append}
 use lib.Seq.{getD-at}
 use Rattle.rules.specs.Table.{_!_}
+use Rattle.fields.specs.Numbers.{Stands}
+use Rattle.fields.proofs.Numbers.{stands-left, stands-right, stands-both}
 use Rattle.saved.specs.Record.{each}
-use Rattle.saved.specs.Reader.{Stands, listed}
-use Rattle.saved.proofs.Fields.{stands-left, stands-right, stands-both}
+use Rattle.saved.specs.Reader.{listed}
 
 pub length-each : (f : ℕ → List ℕ) (k n : ℕ) → ((i : ℕ) → length (f i) ≡ k) → length (each f n) ≡ k * n
 length-each f k zero h = omega arith

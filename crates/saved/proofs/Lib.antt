@@ -1,5 +1,4 @@
--- Laws of fields, of records one after the other, and of the seats in use.
-pub mod Fields
+-- Laws of records one after the other, and of the seats in use.
 pub mod Each
 pub mod Ranks
 -- What stands in a record, and that it reads back.

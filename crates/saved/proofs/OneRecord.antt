@@ -1,5 +1,4 @@
 -- A record is that of one table, since it reads back as that table.
--- Assumes nothing.
 use Rattle.saved.specs.OneRecord.{OneRecord}
 use Rattle.saved.proofs.Back.{one-table}
 

@@ -1,23 +1,27 @@
 -- How many seats are in use below a seat. Taking one seat out makes one less of them, so after k removals a - k of a are left.
--- Assumes nothing.
 use mathlib.Core.Path.{_≡_, refl, sym, ap, ap₂, _∙_}
 use mathlib.Core.Bool.{Bool, true, false, cond}
 use mathlib.Core.List.{List, []}
 use mathlib.Core.Logic.{_≢_}
-use Prim.Native.Nat.{ℕ, zero, suc, _+_, _*_, _-_, _<_, _≤_}
+use Prim.Native.Nat.{ℕ, zero, suc, _+_, _-_, _<_, _≤_}
+use native.Mathlib.Nat.{add-zero}
+use native.Mathlib.Numerals.{add-one}
 use native.Mathlib.Omega.{arith}
-use native.Mathlib.Decide.{ℕ-discrete, decLt}
+use native.Mathlib.Decide.{ℕ-discrete}
 use lib.ListN.{length, set, replicate, length-append}
 use lib.Seq.{getD-set-same, getD-set-other}
 use lib.Dec.{eqb}
 use borrow.Author.Tests.{eq-eqb, ne-eqb}
 use Rattle.rules.specs.Table.{_!_, Bare, Table}
-use Rattle.rules.proofs.Lists.{zeros-at}
+use Rattle.rules.proofs.Lists.{not-apart, zeros-at}
 use Rattle.sound.specs.Canonical.{after, Takeable}
 use Rattle.sound.specs.Test.{Test}
 use Rattle.sound.proofs.Made.{after-is, fewer-still, next-leaves}
 use Rattle.sound.proofs.Audit.{R-takeable, as-made}
-use Rattle.saved.specs.Record.{field, inRecord, each, seatRecord}
+use Rattle.fields.specs.declared.Form.{Form}
+use Rattle.fields.specs.Form.{inLength, outAt, inAt}
+use Rattle.fields.proofs.Numbers.{length-bytes}
+use Rattle.saved.specs.Record.{inRecord, each, seatRecord}
 use Rattle.saved.specs.Reader.{rank}
 
 module _ (A : List ℕ) (b : ℕ) where
@@ -33,6 +37,13 @@ rank-same A F (suc n) h = ap₂ (λ (r : ℕ) (t : Bool). r + cond t 1 0) (rank-
 
 rank-grows : (A : List ℕ) (n : ℕ) → rank A n ≤ rank A (suc n)
 rank-grows A n = omega arith
+
+pub rank-most : (A : List ℕ) (n : ℕ) → rank A n ≤ n
+rank-most A zero = omega arith
+rank-most A (suc n) = elim (ℕ-discrete (A ! n) 0) [
+  | yes z ↦ omega (arith, rank-used A n z, rank-most A n)
+  | no ne ↦ omega (arith, rank-out A n ne, rank-most A n)
+]
 
 pub rank-mono : (A : List ℕ) (n b : ℕ) → b ≤ n → rank A b ≤ rank A n
 rank-mono A zero b h = let e : b ≡ 0 = omega arith in rw e (omega arith)
@@ -51,13 +62,7 @@ rank-below A (suc n) b h z = elim (ℕ-discrete b n) [
 
 -- so two seats in use with as many below them are the same
 pub rank-injective : (A : List ℕ) (x y : ℕ) → A ! x ≡ 0 → A ! y ≡ 0 → rank A x ≡ rank A y → x ≡ y
-rank-injective A x y zx zy e = elim (decLt x y) [
-  | yes l ↦ absurd (omega (arith, rank-below A y x l zx))
-  | no l ↦ elim (decLt y x) [
-    | yes m ↦ absurd (omega (arith, rank-below A x y m zy))
-    | no m ↦ omega arith
-  ]
-]
+rank-injective A x y zx zy e = not-apart x y (λ l. omega (arith, rank-below A y x l zx)) (λ l. omega (arith, rank-below A x y l zy))
 
 -- and each number below the whole is that of some seat in use
 pub rank-onto : (A : List ℕ) (n j : ℕ) → j < rank A n → (x : ℕ) × (x < n) × (A ! x ≡ 0) × (rank A x ≡ j)
@@ -103,10 +108,19 @@ rank-all T t =
     ∙ rank-after (T .seats) (T .R) (T .seats - T .used) (R-takeable T t)
     ∙ omega (arith, t .shape .most)
 
-pub length-seats : (T : Table) (b : ℕ) → length (each (seatRecord T) b) ≡ 8 * rank (T .bare .A) b
-length-seats T zero = refl
-length-seats T (suc b) = length-append (each (seatRecord T) b) (seatRecord T b) ∙ omega (arith, length-seats T b, one (eqb (T .bare .A ! b) 0))
-  where
-    one : (t : Bool) → length (cond t (inRecord field b (T .S ! b)) []) ≡ 8 * cond t 1 0
-    one true = refl
-    one false = refl
+module _ (f : Form) where
+  pub length-in : (b id : ℕ) → length (inRecord f b id) ≡ inLength f
+  length-in b id = simp (length-append, length-bytes) (omega arith)
+
+  -- the records of the seats below b end where the next seat in use has its own
+  pub seats-end : (T : Table) (m b : ℕ) → outAt f m + length (each (seatRecord f T) b) ≡ inAt f m (rank (T .bare .A) b)
+  seats-end T m zero = add-zero (outAt f m)
+  seats-end T m (suc b) =
+      omega (arith, length-append (each (seatRecord f T) b) (seatRecord f T b), seats-end T m b) ∙ one (eqb (T .bare .A ! b) 0)
+    where
+      r : ℕ
+      r = rank (T .bare .A) b
+
+      one : (t : Bool) → inAt f m r + length (cond t (inRecord f b (T .S ! b)) []) ≡ inAt f m (r + cond t 1 0)
+      one true = ap (λ (n : ℕ). inAt f m r + n) (length-in b (T .S ! b)) ∙ ap (inAt f m) (sym (add-one r))
+      one false = add-zero (inAt f m r) ∙ ap (inAt f m) (sym (add-zero r))

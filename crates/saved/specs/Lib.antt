@@ -1,8 +1,8 @@
--- What a reader must believe of the record is Record. Length, OneRecord and Worked are what is proved of it; Reader and Fits
--- serve the proofs.
+-- What a reader must believe.
 pub mod Record
 pub mod Length
 pub mod OneRecord
 pub mod Worked
+-- What serves the proofs.
 pub mod Reader
 pub mod Fits

@@ -12,38 +12,23 @@
 --   49 4E  00 04  00 00 00 0F
 use mathlib.Core.Path.{_≡_}
 use mathlib.Core.Bool.{cond}
-use mathlib.Core.List.{List, [], _∷_, _++_}
-use Prim.Native.Nat.{ℕ, zero, suc, _-_, _/_, _%_}
+use mathlib.Core.List.{List, [], _++_}
+use Prim.Native.Nat.{ℕ, zero, suc, _-_}
 use lib.Dec.{eqb}
 use Rattle.rules.specs.Table.{_!_, Table}
 use Rattle.rules.specs.History.{Reached}
+use Rattle.fields.specs.Numbers.{bytes}
+use Rattle.fields.specs.declared.Form.{Form}
+use Rattle.fields.specs.Form.{headMark, field, formFor, outMark, inMark}
 
--- x in so many bytes, big-endian
-abbrev pub bytes : ℕ → ℕ → List ℕ
-bytes zero x = []
-bytes (suc width) x = bytes width (x / 256) ++ (x % 256 ∷ [])
+abbrev pub headRecord : Form → ℕ → ℕ → List ℕ
+headRecord f a N = headMark f ++ (bytes (field f) a ++ bytes (field f) N)
 
-abbrev pub headMark : List ℕ
-headMark = 0x41 ∷ 0x53 ∷ []
+abbrev pub outRecord : Form → ℕ → List ℕ
+outRecord f b = outMark ++ bytes (field f) b
 
-abbrev pub outMark : List ℕ
-outMark = 0x4F ∷ 0x55 ∷ []
-
-abbrev pub inMark : List ℕ
-inMark = 0x49 ∷ 0x4E ∷ []
-
--- a, N and each seat in a field of so many bytes; the server in four
-abbrev pub field : ℕ
-field = 2
-
-abbrev pub headRecord : ℕ → ℕ → ℕ → List ℕ
-headRecord width a N = headMark ++ (bytes width a ++ bytes width N)
-
-abbrev pub outRecord : ℕ → ℕ → List ℕ
-outRecord width b = outMark ++ bytes width b
-
-abbrev pub inRecord : ℕ → ℕ → ℕ → List ℕ
-inRecord width b id = inMark ++ (bytes width b ++ bytes 4 id)
+abbrev pub inRecord : Form → ℕ → ℕ → List ℕ
+inRecord f b id = inMark ++ (bytes (field f) b ++ bytes 4 id)
 
 -- f 0, f 1, .., f (n - 1), one after the other
 abbrev pub each : (ℕ → List ℕ) → ℕ → List ℕ
@@ -51,17 +36,21 @@ each f zero = []
 each f (suc n) = each f n ++ f n
 
 -- the record of seat b, if it is in use
-abbrev pub seatRecord : Table → ℕ → List ℕ
-seatRecord T b = cond (eqb (T .bare .A ! b) 0) (inRecord field b (T .S ! b)) []
+abbrev pub seatRecord : Form → Table → ℕ → List ℕ
+seatRecord f T b = cond (eqb (T .bare .A ! b) 0) (inRecord f b (T .S ! b)) []
 
-abbrev pub removalRecord : Table → ℕ → List ℕ
-removalRecord T i = outRecord field (T .bare .R ! i)
+abbrev pub removalRecord : Form → Table → ℕ → List ℕ
+removalRecord f T i = outRecord f (T .bare .R ! i)
 
-unfoldable pub recordOf : Table → List ℕ
-recordOf T =
+-- the record of a table in a form, and in its own
+unfoldable pub recordIn : Form → Table → List ℕ
+recordIn f T =
     let a = T .bare .seats in
     let N = T .bare .used in
-    headRecord field a N ++ (each (removalRecord T) (a - N) ++ each (seatRecord T) a)
+    headRecord f a N ++ (each (removalRecord f T) (a - N) ++ each (seatRecord f T) a)
+
+abbrev pub recordOf : Table → List ℕ
+recordOf T = recordIn (formFor (T .bare .seats)) T
 
 -- the bytes are a record of a sound table
 pub record IsRecord (s : List ℕ) : Type 0 where

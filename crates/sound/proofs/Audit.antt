@@ -2,7 +2,6 @@
 -- Why: before each removal, every seat x at position q of the true line owes q. At first each seat owes its own number.
 -- When b goes from position q, L[b] = q since b owes q; and the seat at the end of the line is W's, since it owes that
 -- place, and owes q next, by the test. At the end the seats in use owe where they stand, which is W and L.
--- Assumes nothing.
 use mathlib.Core.Path.{_≡_, sym, ap, _∙_, subst}
 use mathlib.Core.Logic.{_≢_, _↔_, inl, inr}
 use Prim.Native.Nat.{ℕ, zero, suc, _-_, _<_, _≤_, max}

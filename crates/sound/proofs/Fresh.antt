@@ -1,5 +1,4 @@
 -- Of length l + 1 numbers one does not stand in the list l: there are too few places.
--- Assumes nothing.
 use mathlib.Core.Path.{_≡_}
 use mathlib.Core.List.{List, [], _∷_}
 use mathlib.Core.Logic.{_≢_, _⊎_, inl, inr}

@@ -1,5 +1,4 @@
 -- Histories grow at their end: a change that a reached table accepts leaves a reached table.
--- Assumes nothing.
 use mathlib.Core.Path.{_≡_, refl, sym, ap, _∙_, subst}
 use mathlib.Core.List.{List, [], _∷_, _++_}
 use Prim.Native.Nat.{ℕ}

@@ -1,5 +1,4 @@
 -- The ids stay good when one seat's word in A and its id change together.
--- Assumes nothing.
 use mathlib.Core.Path.{_≡_, sym, _∙_}
 use mathlib.Core.List.{List}
 use mathlib.Core.Logic.{_≢_}

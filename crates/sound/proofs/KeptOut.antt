@@ -1,5 +1,4 @@
 -- A full table keeps it, and taking a seat out does not break it.
--- Assumes nothing.
 use mathlib.Core.Path.{_≡_, sym, ap, _∙_}
 use mathlib.Core.Logic.{_≢_, inl, inr}
 use Prim.Native.Nat.{ℕ, _-_, _<_, _≤_}
@@ -7,9 +6,9 @@ use native.Mathlib.Omega.{arith}
 use native.Mathlib.Decide.{ℕ-discrete}
 use lib.ListN.{length-set, length-replicate}
 use Rattle.rules.specs.Table.{Bare, _!_}
-use Rattle.rules.specs.Changes.{out}
+use Rattle.rules.specs.Changes.{out, Leaves}
 use Rattle.rules.specs.Keys.{full}
-use Rattle.sound.specs.Kept.{Kept, Order, Leaves}
+use Rattle.sound.specs.Kept.{Kept, Order}
 use Rattle.rules.proofs.Lists.{differ, length-count, own-at, zeros-at}
 use Rattle.sound.proofs.Written.{Written, written}
 

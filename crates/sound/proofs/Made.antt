@@ -1,5 +1,4 @@
 -- What a table is that is made by taking the seats rs out, in order, of a full one; and that seating undoes the last.
--- Assumes nothing.
 use mathlib.Core.Path.{_≡_, refl, sym, ap, ap₂, _∙_}
 use mathlib.Core.List.{List, _++_}
 use mathlib.Core.Logic.{_≢_, inl, inr}
@@ -9,9 +8,9 @@ use native.Mathlib.Decide.{ℕ-discrete, decLt}
 use lib.ListN.{length, replicate, length-append, length-replicate, length-set, List·getD-append}
 use lib.Seq.{ext-getD}
 use Rattle.rules.specs.Table.{_!_, Bare}
-use Rattle.rules.specs.Changes.{out, seat}
+use Rattle.rules.specs.Changes.{out, seat, Leaves}
 use Rattle.rules.proofs.Undo.{Undoable, undo}
-use Rattle.sound.specs.Kept.{Kept, Lengths, Leaves}
+use Rattle.sound.specs.Kept.{Kept, Lengths}
 use Rattle.sound.specs.Canonical.{after, made, Takeable}
 use Rattle.rules.proofs.Lists.{padded}
 use Rattle.sound.proofs.Written.{written}

@@ -1,5 +1,4 @@
 -- An accepted opening passes the test, and its ids are good.
--- Assumes nothing.
 use mathlib.Core.Path.{_≡_, refl, sym, _∙_}
 use mathlib.Core.List.{List, _++_}
 use mathlib.Core.Logic.{_≢_, inl, inr}
@@ -9,12 +8,12 @@ use native.Mathlib.Decide.{decLt}
 use lib.ListN.{length, replicate, length-append, length-replicate, List·getD-append}
 use Rattle.rules.specs.Table.{_!_}
 use Rattle.rules.specs.Changes.{count, down, opened}
-use Rattle.rules.specs.History.{Opens}
 use Rattle.sound.specs.Canonical.{Ids}
 use Rattle.sound.specs.Test.{gone, stays, stood, Test}
-use Rattle.rules.proofs.Lists.{length-down, down-at, counted, zeros-at, length-count, own-at, padded}
+use Rattle.rules.specs.Asks.{Opening}
+use Rattle.rules.proofs.Lists.{not-apart, length-down, down-at, counted, zeros-at, length-count, own-at, padded}
 
-module _ (a : ℕ) (ids : List ℕ) (o : Opens a ids) where
+module _ (a : ℕ) (ids : List ℕ) (o : Opening a ids) where
   abbrev w : ℕ
   w = length ids
 
@@ -84,8 +83,5 @@ module _ (a : ℕ) (ids : List ℕ) (o : Opens a ids) where
             let hx : x < w = named x ne in
             let hy : y < w = named y (λ z. ne (e ∙ z)) in
             let same : ids ! x ≡ ids ! y = sym (S-in x hx) ∙ e ∙ S-in y hy in
-            elim (decLt x y) [
-              | yes m ↦ absurd (o .apart x y m hy same)
-              | no m ↦ elim (decLt y x) [ yes n ↦ absurd (o .apart y x n hx (sym same)) | no n ↦ omega arith ]
-            ];
+            not-apart x y (λ m. o .apart x y m hy same) (λ m. o .apart y x m hx (sym same));
       }

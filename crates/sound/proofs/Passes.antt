@@ -1,5 +1,4 @@
 -- A made table passes the test: the full one does, and taking a seat out keeps it.
--- Assumes nothing.
 use mathlib.Core.Path.{_≡_, sym, ap, _∙_}
 use mathlib.Core.List.{List}
 use mathlib.Core.Logic.{_≢_}
@@ -7,9 +6,9 @@ use Prim.Native.Nat.{ℕ, zero, suc, _-_, _≤_}
 use native.Mathlib.Omega.{arith}
 use native.Mathlib.Decide.{ℕ-discrete, decLt}
 use Rattle.rules.specs.Table.{Bare, _!_}
-use Rattle.rules.specs.Changes.{out}
+use Rattle.rules.specs.Changes.{out, Leaves}
 use Rattle.rules.specs.Keys.{full}
-use Rattle.sound.specs.Kept.{Kept, Leaves}
+use Rattle.sound.specs.Kept.{Kept}
 use Rattle.sound.specs.Canonical.{after, Takeable}
 use Rattle.sound.specs.Test.{Owes, gone, stays, Cut, stood, moved, Test}
 use Rattle.rules.proofs.Lists.{differ, own-at, zeros-at}

@@ -2,20 +2,21 @@
 -- Only if: an opening passes the test, and so does what a change makes of a table that passes.
 -- If: by induction on the seats out of use. With none it is an opening. Else seat any fresh id: the table that this makes
 -- has one less, so it is reached, and taking that id out again gives the table back.
--- Assumes nothing.
 use mathlib.Core.Path.{_≡_, refl, sym, ap, _∙_, subst}
 use mathlib.Core.List.{List, _∷_, _++_, append-nil}
 use mathlib.Core.Logic.{_≢_, _↔_, inl, inr}
 use Prim.Native.Nat.{ℕ, zero, suc, _-_, _<_, _≤_}
 use native.Mathlib.Omega.{arith}
 use native.Mathlib.Decide.{ℕ-discrete}
-use lib.ListN.{length, set, replicate}
-use lib.Seq.{getD-set-same, set-set, set-getD}
+use lib.ListN.{length, set, replicate, length-set}
+use lib.Seq.{getD-set-same, getD-set-other, set-set, set-getD}
 use Rattle.rules.specs.Table.{_!_, Bare, Table, mostSeats}
-use Rattle.rules.specs.Changes.{opened, lastOut, takeOut, seatId}
+use Rattle.rules.specs.Changes.{opened, lastOut, takeOut, seatId, Leaves}
 use Rattle.rules.specs.History.{Opens, Change, taking, seating, Seats, Takes, Accepts, changed, run, Accepted, done, then, Reached}
 use Rattle.rules.specs.Keys.{full}
-use Rattle.sound.specs.Kept.{Kept, Leaves}
+use Rattle.rules.specs.Asks.{Opening}
+use Rattle.rules.proofs.Accepts.{opening, opens-from, taken, takes-from, seated, seats-from}
+use Rattle.sound.specs.Kept.{Kept}
 use Rattle.sound.specs.Canonical.{after, Ids, CanonicalTable}
 use Rattle.sound.specs.Test.{Test}
 use Rattle.sound.proofs.Audit.{as-made, audit}
@@ -36,21 +37,30 @@ pub named-in-use : {T : Table} {b : ℕ} → Passes T → b < T .bare .seats →
 named-in-use {T} {b} p below named = elim (ℕ-discrete (T .bare .A ! b) 0) [ yes e ↦ e | no ne ↦ absurd (named (p .ids .none b below (omega arith))) ]
 
 pub leaves : {T : Table} {id b : ℕ} → Passes T → Takes T id b → Leaves (T .bare) b
-leaves {T} {id} {b} p s = record { below = s .below; inUse = named-in-use p (s .below) (λ z. s .isId .0 (sym (s .has) ∙ z)); two = s .two }
+leaves {T} {id} {b} p t =
+    let k = taken t in
+    let below : b < T .bare .seats = omega (arith, k .inside, p .ids .size) in
+    record { below = below; inUse = named-in-use p below (λ z. k .named (sym (k .has) ∙ z)); two = omega (arith, k .other, p .test .shape .some) }
+
+pub room : {T : Table} {id b : ℕ} → Passes T → Seats T id b → T .bare .used < T .bare .seats
+room p t = omega (arith, seated t .room, p .test .shape .most)
 
 pub changed-passes : {T : Table} (c : Change) → Passes T → Accepts T c → Passes (changed T c)
-changed-passes {T} (taking id b) p s =
+changed-passes {T} (taking id b) p t =
+    let v = leaves p t in
     record {
       most = p .most;
-      test = out-passes (T .bare) b (p .test) (leaves p s);
-      ids = ids-set (T .bare .seats) (T .bare .A) (T .S) b (T .bare .used - 1) 0 (p .ids) (s .below) (p .test .shape .lenA) (λ l. refl) (λ z. absurd (omega (arith, s .two))) (λ o. absurd (o refl));
+      test = out-passes (T .bare) b (p .test) v;
+      ids = ids-set (T .bare .seats) (T .bare .A) (T .S) b (T .bare .used - 1) 0 (p .ids) (v .below) (p .test .shape .lenA) (λ l. refl) (λ z. absurd (omega (arith, v .two))) (λ o. absurd (o refl));
     }
-changed-passes {T} (seating id b) p s =
-    let below = seat-leaves (T .bare) (p .test) (s .room) .below in
+changed-passes {T} (seating id b) p t =
+    let h = room p t in
+    let k = seated t in
+    let below = seat-leaves (T .bare) (p .test) h .below in
     record {
       most = p .most;
-      test = seat-passes (T .bare) (p .test) (s .room);
-      ids = ids-set (T .bare .seats) (T .bare .A) (T .S) _ 0 id (p .ids) below (p .test .shape .lenA) (λ l. absurd (omega arith)) (λ z. s .isId) (λ o. s .absent);
+      test = seat-passes (T .bare) (p .test) h;
+      ids = ids-set (T .bare .seats) (T .bare .A) (T .S) _ 0 id (p .ids) below (p .test .shape .lenA) (λ l. absurd (omega arith)) (λ z. k .isId) (λ o x l. k .away x (omega (arith, p .ids .size)));
     }
 
 run-passes : {T : Table} {h : List Change} → Accepted T h → Passes T → Passes (run T h)
@@ -59,13 +69,13 @@ run-passes (then {c = c} s ok) p = run-passes ok (changed-passes c p s)
 
 pub opened-passes : (a : ℕ) (ids : List ℕ) → Opens a ids → Passes (opened a ids)
 unfolding opened
-opened-passes a ids o = record { most = o .most; test = open-passes a ids o; ids = open-ids a ids o }
+opened-passes a ids o = let k = opening o in record { most = k .most; test = open-passes a ids k; ids = open-ids a ids k }
 
 pub passes : {T : Table} → Reached T → Passes T
 passes r = subst (λ (U : Table). Passes U) (r .leaves) (run-passes (r .accepted) (opened-passes (r .a) (r .ids) (r .opens)))
 
 -- two tables of the same words
-alike : {T U : Table} → T .bare ≡ U .bare → T .S ≡ U .S → T ≡ U
+pub alike : {T U : Table} → T .bare ≡ U .bare → T .S ≡ U .S → T ≡ U
 alike p q = λ i. record { bare = p i; S = q i }
 
 -- with every seat in use a table is an opening
@@ -77,7 +87,7 @@ module _ (T : Table) (p : Passes T) (e : T .bare .seats - T .bare .used ≡ 0) w
   inUse : (x : ℕ) → x < T .bare .seats → T .bare .A ! x ≡ 0
   inUse x h = elim (p .test .order .each x h) [ inl z ↦ z | inr o ↦ absurd (omega arith) ]
 
-  opens : Opens (T .bare .seats) (T .S)
+  opens : Opening (T .bare .seats) (T .S)
   opens =
       let size = p .ids .size in
       record {
@@ -105,19 +115,16 @@ module _ (T : Table) (p : Passes T) (h : T .bare .used < T .bare .seats) where
 
   seatable : (id : ℕ) × Seats T id b
   seatable =
-      let u = fresh (0 ∷ T .S) in (
-        u .0,
-        record {
-          isId = (λ z. u .2 0 (omega arith) (sym z), omega (arith, p .most, p .ids .size));
-          absent = λ x l. u .2 (suc x) (omega (arith, p .ids .size));
-          room = h;
-          isLast = refl;
-        },
-      )
+      let u = fresh (0 ∷ T .S) in
+      (u .0, seats-from (record { isId = (λ z. u .2 0 (omega arith) (sym z), omega (arith, p .most, p .ids .size)); away = λ x l. u .2 (suc x) (omega arith); room = omega arith; isLast = refl }))
 
   takes : (id : ℕ) → Seats T id b → Takes (seatId T id) id b
-  takes id s =
-      record { isId = s .isId; below = last-taken .0; has = getD-set-same (T .S) b id 0 (omega (arith, p .ids .size, last-taken .0)); two = omega (arith, p .test .shape .some) }
+  takes id t =
+      let inside : b < length (T .S) = omega (arith, p .ids .size, last-taken .0) in
+      let long = length-set (T .S) b id in
+      takes-from
+      (record { named = seated t .isId .0; inside = omega arith; has = getD-set-same (T .S) b id 0 inside; other = omega (arith, p .test .shape .some) })
+      (λ x l e. elim (ℕ-discrete x b) [ yes q ↦ q | no ne ↦ absurd (seated t .away x (omega arith) (sym (getD-set-other (T .S) b x id 0 ne) ∙ e)) ])
 
   pub back : (id : ℕ) → takeOut (seatId T id) b ≡ T
   back id =
@@ -125,7 +132,7 @@ module _ (T : Table) (p : Passes T) (h : T .bare .used < T .bare .seats) where
       alike (out-of-seat (T .bare) (p .test) h) (set-set (T .S) b id 0 ∙ ap (λ (v : ℕ). set (T .S) b v) (sym none) ∙ set-getD (T .S) b 0)
 
 reach : (k : ℕ) (T : Table) → T .bare .seats - T .bare .used ≡ k → Passes T → Reached T
-reach zero T e p = subst (λ (U : Table). Reached U) (sym (an-opening T p e)) (reached-opened (T .bare .seats) (T .S) (opens T p e))
+reach zero T e p = subst (λ (U : Table). Reached U) (sym (an-opening T p e)) (reached-opened (T .bare .seats) (T .S) (opens-from (opens T p e)))
 reach (suc k) T e p =
     let h : T .bare .used < T .bare .seats = omega arith in
     let (id, s) = seatable T p h in

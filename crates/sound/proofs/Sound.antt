@@ -1,6 +1,5 @@
 -- Whether words are sound is decided, so that a definition may ask it.
--- Assumes nothing.
-use mathlib.Core.Path.{_≡_, sym, ap, subst}
+use mathlib.Core.Path.{_≡_, refl, sym, ap, _∙_, subst}
 use mathlib.Core.List.{List, [], _∷_, List-discrete}
 use mathlib.Core.Logic.{_≢_, Dec·and, Dec·not}
 use Prim.Native.Nat.{ℕ, zero, suc, _-_, _<_, _≤_, _^_}
@@ -10,7 +9,9 @@ use lib.ListN.{length, getD}
 use Rattle.rules.specs.Table.{_!_, Bare, Table, parts, runLength, mostSeats, tableOf}
 use Rattle.rules.specs.History.{Id, Reached, Sound}
 use Rattle.rules.proofs.Parts.{All, none, more}
-use Rattle.rules.proofs.Words.{Legal, words-tableOf, tableOf-words, length-words}
+use Rattle.rules.specs.Runs.{Legal}
+use Rattle.rules.proofs.Words.{words-tableOf, tableOf-words, length-words}
+use Rattle.sound.specs.Kept.{Lengths}
 use Rattle.sound.specs.Canonical.{after, Takeable, Canonical, Ids}
 use Rattle.sound.specs.Test.{Test}
 use Rattle.sound.proofs.Passes.{made-passes}
@@ -86,17 +87,17 @@ reached? T =
     (Dec·and (decLe (T .bare .seats) mostSeats) (Dec·and (canonical? (T .bare)) (ids? (T .bare .seats) (T .bare .A) (T .S))))
 
 -- the parts of a reached table are a words each
+pub sized-parts : (T : Table) {a : ℕ} → T .bare .seats ≡ a → Lengths (T .bare) → length (T .S) ≡ a → All a (parts T)
+sized-parts T e s size = more (s .lenA ∙ e) (more (s .lenK ∙ e) (more (s .lenW ∙ e) (more (s .lenL ∙ e) (more (s .lenR ∙ e) (more size none)))))
+
 pub sized : {T : Table} → Reached T → All (T .bare .seats) (parts T)
-sized r =
-    let p = passes r in
-    let s = p .test .shape in
-    more (s .lenA) (more (s .lenK) (more (s .lenW) (more (s .lenL) (more (s .lenR) (more (p .ids .size) none)))))
+sized {T} r = let p = passes r in sized-parts T refl (p .test .shape) (p .ids .size)
 
 -- so sound words are of legal shape, and what they hold is reached
-pub sound-legal : {w : List ℕ} → Sound w → Legal w
+pub sound-legal : {w : List ℕ} → Sound w → Legal w (w ! 0)
 sound-legal s =
     let p = passes (s .reached) in
-    rw (← (s .isWords)) (record { some = omega (arith, p .test .shape .some, p .test .shape .most); most = p .most; size = length-words (s .table) (sized (s .reached)) })
+    rw (← (s .isWords)) (record { first = refl; some = omega (arith, p .test .shape .some, p .test .shape .most); shape = record { size = length-words (s .table) (sized (s .reached)); most = p .most } })
 
 pub sound-table : {w : List ℕ} → Sound w → Reached (tableOf w)
 sound-table s = rw (← (s .isWords), tableOf-words (s .table) (sized (s .reached))) (s .reached)
@@ -106,6 +107,6 @@ table-sound {w} size r = record { table = tableOf w; reached = r; isWords = word
 
 pub sound? : (w : List ℕ) → Dec (Sound w)
 sound? w = elim (ℕ-discrete (length w) (runLength (w ! 0))) [
-  | no n ↦ no (λ s. n (sound-legal s .size))
+  | no n ↦ no (λ s. n (sound-legal s .shape .size))
   | yes e ↦ map-dec (λ r. table-sound e r) (λ s. sound-table s) (reached? (tableOf w))
 ]

@@ -1,12 +1,11 @@
 -- A change of a table that passes the test leaves one that passes; and taking out undoes seating.
--- Assumes nothing.
 use mathlib.Core.Path.{_≡_, sym, ap, _∙_, subst}
 use Prim.Native.Nat.{ℕ, suc, _-_, _<_}
 use native.Mathlib.Omega.{arith}
 use lib.Seq.{getD-set-same}
 use Rattle.rules.specs.Table.{Bare, _!_}
-use Rattle.rules.specs.Changes.{out, seat, lastOut}
-use Rattle.sound.specs.Kept.{Kept, Leaves}
+use Rattle.rules.specs.Changes.{out, seat, lastOut, Leaves}
+use Rattle.sound.specs.Kept.{Kept}
 use Rattle.sound.specs.Canonical.{after, Takeable}
 use Rattle.sound.specs.Test.{Test}
 use Rattle.sound.proofs.Made.{fewer-still, After, after-is, next-leaves, undone}

@@ -1,5 +1,4 @@
 -- Taking a seat out, read word by word.
--- Assumes nothing.
 use mathlib.Core.Path.{_≡_, refl, sym, ap, _∙_}
 use mathlib.Core.Logic.{_≢_}
 use Prim.Native.Nat.{ℕ, _-_, _<_}
@@ -7,8 +6,8 @@ use native.Mathlib.Omega.{arith}
 use native.Mathlib.Decide.{ℕ-discrete}
 use lib.Seq.{getD-set-same, getD-set-other}
 use Rattle.rules.specs.Table.{Bare, _!_}
-use Rattle.rules.specs.Changes.{out}
-use Rattle.sound.specs.Kept.{Kept, Leaves}
+use Rattle.rules.specs.Changes.{out, Leaves}
+use Rattle.sound.specs.Kept.{Kept}
 use Rattle.rules.proofs.Lists.{keeps}
 
 -- what taking b out writes, and what it leaves

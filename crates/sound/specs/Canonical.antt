@@ -1,4 +1,4 @@
--- The form that every sound table has, and no other: made by taking seats out of a full table, with good ids.
+-- The form that every sound table has (document 01, 'Changes'), and no other: made by taking seats out of a full table, with good ids.
 use mathlib.Core.Path.{_≡_}
 use mathlib.Core.List.{List}
 use mathlib.Core.Logic.{_≢_}

@@ -1,4 +1,4 @@
--- What stands in a table that is made by taking seats out.
+-- What stands in a table that is made by taking seats out: document 01, 'The table', of the words of a sound one.
 use mathlib.Core.Path.{_≡_}
 use mathlib.Core.Logic.{_⊎_}
 use Prim.Native.Nat.{ℕ, _-_, _<_, _≤_}
@@ -27,9 +27,3 @@ pub record Kept (T : Bare) : Type 0 where
   pub order : Order T
   pub seated : (x : ℕ) → x < T .seats → T .A ! x ≡ 0 → (T .K ! x ≡ x) × (T .L ! x < T .used) × (T .W ! (T .L ! x) ≡ x)
   pub line : (q : ℕ) → q < T .used → (T .W ! q < T .seats) × (T .A ! (T .W ! q) ≡ 0) × (T .L ! (T .W ! q) ≡ q)
-
--- b may be taken out
-pub record Leaves (T : Bare) (b : ℕ) : Type 0 where
-  pub below : b < T .seats
-  pub inUse : T .A ! b ≡ 0
-  pub two : 2 ≤ T .used

@@ -1,4 +1,5 @@
--- The other two ways to tell a sound table. A reader who believes crate `rules` need not believe these: proofs/ shows them equal.
+-- What serves the proofs.
+-- The other two ways to tell a sound table: proofs/ shows them equal to that of crate `rules`.
 pub mod Kept
 pub mod Canonical
 pub mod Test

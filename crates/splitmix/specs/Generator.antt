@@ -7,6 +7,7 @@ use lib.Bits.{bitXor}
 unfoldable pub mixed : ℕ → ℕ → ℕ → ℕ
 mixed s c z = bitXor z (z / 2 ^ s) * c % 2 ^ 64
 
+-- k and n steps of one odd number; twice mixed with its own high bits and another number; and mixed once more
 unfoldable pub output : ℕ → ℕ → ℕ
 output n k =
     let z₁ = (k + n * 0x9e3779b97f4a7c15) % 2 ^ 64 in

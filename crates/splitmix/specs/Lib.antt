@@ -1,2 +1,2 @@
--- What the promises of the crate cite.
+-- What a reader must believe.
 pub mod Generator

@@ -1,5 +1,4 @@
 -- The promises of the exported functions leave one outcome each: the number, the lent values and the lent run or record.
--- Assumes nothing.
 use mathlib.Core.Path.{sym, _∙_}
 use mathlib.Core.List.{List}
 use Prim.Native.Nat.{ℕ}

@@ -1,4 +1,5 @@
--- For C: how an exported function tells the outcome of the call that it stands for.
+-- C-ABI.md, for C: how an exported function tells the outcome of the call that it stands for. It answers the call's number; values go out through the last
+-- parameters, and where the number is not 0 these are as they were.
 use mathlib.Core.Path.{_≡_}
 use mathlib.Core.Bool.{cond}
 use mathlib.Core.List.{List}

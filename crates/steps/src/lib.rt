@@ -16,7 +16,7 @@ fn store(lent: &mut [u32], i: usize, x: u32)
     lent[i] = x;
 }
 
-// The words before the parts: a, and N.
+// The words before the parts.
 pub fn set_seats(t: &mut [u32], a: u32)
     requires { ⌜ 0 < length (now t) ⌝ }
     ensures { λ _. ⌜ now (t .exit) ≡ set (now (t .entry)) 0 a ⌝ }

@@ -1,55 +1,77 @@
--- A printed line, piece by piece.
--- Assumes nothing.
+-- A printed line, piece by piece: a word, and its numbers one after the other.
 use mathlib.Core.Path.{_≡_, refl, sym, ap, _∙_}
 use mathlib.Core.List.{List, [], _∷_, _++_, append-nil, append-assoc}
-use mathlib.Core.Bool.{Bool, true, false, cond}
-use Prim.Native.Nat.{ℕ, zero, suc, _+_, _/_, _%_, _^_, _<_, _≤_}
+use Prim.Native.Nat.{ℕ, _+_, _*_, _^_, _<_, _≤_}
+use native.Mathlib.Numerals.{add-one}
 use native.Mathlib.Omega.{arith}
-use lib.ListN.{length, length-append}
-use lib.Dec.{ltb, eqb}
-use borrow.Author.Tests.{ne-eqb}
-use Rattle.rules.specs.Answers.{numberOf, refused}
-use Rattle.rules.specs.declared.Refusal.{Refusal}
-use Rattle.rules.proofs.Numbers.{numberOf-positive}
-use Rattle.transcript.specs.Printing.{decimalIn, decimal, spaced, said, okWord, noWord, printed}
-use Rattle.transcript.proofs.Decimals.{decimal-length}
+use lib.ListN.{length, take, drop, length-append, take-append-drop}
+use lib.Seq.{take-suc, take-all}
+use Rattle.rules.specs.Table.{_!_}
+use Rattle.decimals.specs.Decimal.{decimal}
+use Rattle.decimals.specs.Places.{Put}
+use Rattle.decimals.proofs.Printed.{decimal-length}
+use Rattle.decimals.proofs.Stored.{put-then, put-length}
+use Rattle.lines.specs.Lines.{space, spaced}
+use Rattle.transcript.specs.Printing.{said}
+use Rattle.transcript.specs.Replies.{valueMost, lineMost}
 
-pub said-one : (word : List ℕ) (v : ℕ) → (word ++ (32 ∷ decimal v)) ++ (10 ∷ []) ≡ said word (v ∷ [])
+spaced-append : (xs ys : List ℕ) → spaced (xs ++ ys) ≡ spaced xs ++ spaced ys
 unfolding spaced
-said-one word v = ap (λ (l : List ℕ). (word ++ l) ++ (10 ∷ [])) (sym (append-nil (32 ∷ decimal v)))
+spaced-append [] ys = refl
+spaced-append (x ∷ xs) ys = ap (λ (l : List ℕ). space ∷ decimal x ++ l) (spaced-append xs ys) ∙ sym (append-assoc (space ∷ decimal x) (spaced xs) (spaced ys))
 
-regroup : (o p q r z : List ℕ) → (((o ++ p) ++ q) ++ r) ++ z ≡ (o ++ (p ++ (q ++ (r ++ [])))) ++ z
-regroup o p q r z = simp (append-assoc, append-nil)
+pub said-length : (word vs : List ℕ) → length (said word vs) ≡ length word + length (spaced vs) + 1
+said-length word vs = simp length-append refl
 
-pub said-three : (v w x : ℕ) → (((okWord ++ (32 ∷ decimal v)) ++ (32 ∷ decimal w)) ++ (32 ∷ decimal x)) ++ (10 ∷ []) ≡ said okWord (v ∷ w ∷ x ∷ [])
+-- numbers of 32 bits have ten digits at the most
+abbrev pub Small : List ℕ → Type 0
+Small [] = Unit {0}
+Small (v ∷ vs) = (v < 2 ^ 32) × Small vs
+
+spaced-most : (vs : List ℕ) → Small vs → length (spaced vs) ≤ valueMost * length vs
 unfolding spaced
-said-three v w x = regroup okWord (32 ∷ decimal v) (32 ∷ decimal w) (32 ∷ decimal x) (10 ∷ [])
+spaced-most [] h = omega arith
+spaced-most (v ∷ vs) h = omega (arith, length-append (decimal v) (spaced vs), decimal-length 19 9 v (omega (arith, h .0)), spaced-most vs (h .1))
 
-pub said-one-length : (word : List ℕ) (v : ℕ) → length (said word (v ∷ [])) ≡ length word + (1 + length (decimal v)) + 1
-said-one-length word v = ap length (sym (said-one word v)) ∙ simp length-append (omega arith)
+pub said-most : (word vs : List ℕ) → length word ≡ 2 → Small vs → length (said word vs) ≤ lineMost (length vs)
+said-most word vs e h = omega (arith, said-length word vs, spaced-most vs h)
 
-pub said-three-length : (v w x : ℕ) → length (said okWord (v ∷ w ∷ x ∷ [])) ≡ 2 + (1 + length (decimal v)) + (1 + length (decimal w)) + (1 + length (decimal x)) + 1
-said-three-length v w x = ap length (sym (said-three v w x)) ∙ simp length-append (omega arith)
+-- the number at i
+module _ (vs : List ℕ) (i : ℕ) (h : i < length vs) where
+  spaced-take : spaced (take (i + 1) vs) ≡ spaced (take i vs) ++ (space ∷ decimal (vs ! i))
+  unfolding spaced
+  spaced-take =
+      ap spaced (ap (λ (n : ℕ). take n vs) (add-one i) ∙ take-suc vs i 0 h)
+      ∙ spaced-append (take i vs) (vs ! i ∷ [])
+      ∙ ap (λ (l : List ℕ). spaced (take i vs) ++ l) (append-nil (space ∷ decimal (vs ! i)))
 
--- how long a line can be
+  spaced-room : length (spaced (take i vs)) + (1 + length (decimal (vs ! i))) ≤ length (spaced vs)
+  spaced-room =
+      omega (
+        arith,
+        ap length (spaced-take),
+        length-append (spaced (take i vs)) (space ∷ decimal (vs ! i)),
+        ap (λ (l : List ℕ). length (spaced l)) (take-append-drop (i + 1) vs),
+        ap length (spaced-append (take (i + 1) vs) (drop (i + 1) vs)),
+        length-append (spaced (take (i + 1) vs)) (spaced (drop (i + 1) vs)),
+      )
 
-pub digits-most : (more n : ℕ) → length (decimalIn more n) ≤ suc more
-unfolding decimalIn
-digits-most zero n = omega arith
-digits-most (suc more) n = go (ltb n 10) (digits-most more (n / 10))
-  where
-    go : (t : Bool) → length (decimalIn more (n / 10)) ≤ suc more → length (cond t ((48 + n) ∷ []) (decimalIn more (n / 10) ++ ((48 + n % 10) ∷ []))) ≤ suc (suc more)
-    go true h = omega arith
-    go false h = simp length-append (omega arith)
+-- the first i numbers are put
+pub record Saying (vs out₀ : List ℕ) (at : ℕ) (out : List ℕ) (to i : ℕ) : Type 0 where
+  pub room : at + length (spaced vs) ≤ length out₀
+  pub put : Put (spaced (take i vs)) at out₀ (to, out)
 
-pub one-most : (word : List ℕ) (v : ℕ) → length word ≡ 2 → length (said word (v ∷ [])) ≤ 24
-one-most word v e = omega (arith, said-one-length word v, digits-most 19 v)
+pub saying-none : (vs out : List ℕ) (at : ℕ) → at + length (spaced vs) ≤ length out → Saying vs out at out at 0
+unfolding spaced
+saying-none vs out at h = record { room = h; put = record { fits = omega arith; next = omega arith; bytes = refl } }
 
-pub refused-most : (r : Refusal) → length (printed (refused r)) ≤ 24
-refused-most r =
-    let no : eqb (numberOf r) 0 ≡ false = ne-eqb (numberOf r) 0 (λ z. omega (arith, numberOf-positive r)) in
-    rw no (one-most noWord (numberOf r) refl)
+module _ {vs out₀ : List ℕ} {at : ℕ} {out : List ℕ} {to i : ℕ} (s : Saying vs out₀ at out to i) where
+  module _ (h : i < length vs) where
+    pub saying-room : to + length (space ∷ decimal (vs ! i)) ≤ length out
+    saying-room = omega (arith, s .room, spaced-room vs i h, s .put .next, put-length (s .put))
 
-pub three-most : (v w x : ℕ) → v < 2 ^ 32 → w < 2 ^ 32 → x < 2 ^ 32 → length (said okWord (v ∷ w ∷ x ∷ [])) ≤ 36
-three-most v w x hv hw hx =
-    omega (arith, said-three-length v w x, decimal-length 19 9 v (omega arith), decimal-length 19 9 w (omega arith), decimal-length 19 9 x (omega arith))
+    pub saying-more : {out′ : List ℕ} {to′ : ℕ} → Put (space ∷ decimal (vs ! i)) to out (to′, out′) → Saying vs out₀ at out′ to′ (i + 1)
+    saying-more p = record { room = s .room; put = rw (← spaced-take vs i h) at (put-then (s .put) p) }
+
+  pub saying-all : length vs ≤ i → Put (spaced vs) at out₀ (to, out)
+  saying-all h = rw (take-all i vs h) at (s .put)

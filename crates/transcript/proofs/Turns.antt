@@ -1,9 +1,8 @@
 -- A line more: what is read of the input, and what is written of the transcript.
--- Assumes nothing.
 use mathlib.Core.Path.{_≡_, refl, sym, ap, ap₂, _∙_}
 use mathlib.Core.List.{List, [], _∷_, _++_, append-assoc, append-nil}
 use mathlib.Core.Logic.{_≢_}
-use Prim.Native.Nat.{ℕ, zero, suc, _+_, _*_, _-_, _<_, _≤_, max}
+use Prim.Native.Nat.{ℕ, zero, suc, _+_, _*_, _-_, _<_, _≤_}
 use native.Mathlib.Omega.{arith}
 use native.Mathlib.Decide.{decLt}
 use lib.ListN.{length, take, drop, length-append, length-drop, drop-of-length-le, take-append-drop}
@@ -13,13 +12,15 @@ use Rattle.io.specs.Counts.{Counts}
 use Rattle.promises.specs.One.{One}
 use Rattle.rules.specs.Table.{_!_}
 use Rattle.rules.specs.Answers.{Answer, Outcome}
-use Rattle.lines.proofs.Digits.{byte}
+use Rattle.decimals.specs.Places.{Put}
+use Rattle.decimals.proofs.Digits.{byte}
+use Rattle.decimals.proofs.Stored.{put-front, put-behind, put-length}
 use Rattle.lines.specs.Lines.{linesOf, commandOf}
 use Rattle.transcript.specs.Printing.{printed}
 use Rattle.transcript.specs.Transcript.{respond, replies}
-use Rattle.transcript.specs.Replies.{replyAnswer, Put, tableIn, After, Ends, Written}
-use Rattle.transcript.specs.declared.Reply.{Reply}
-use Rattle.transcript.proofs.Stored.{put-front, put-behind, put-length}
+use Rattle.transcript.specs.Replies.{replyAnswer, byteRoom, lineRoom, replyMost, Puts, tableIn, After, Ends}
+use Rattle.transcript.specs.Written.{Written}
+use Rattle.transcript.specs.declared.Answered.{Answered}
 
 module _ (s : List ℕ) where
   -- the line of d bytes at `at`
@@ -55,50 +56,50 @@ module _ (s : List ℕ) where
 pub record So (input : List ℕ) (out₀ out t : List ℕ) (len at i : ℕ) : Type 0 where
   pub size : length out ≡ length out₀
   pub within : len ≤ length t
-  pub room : at + 6 * (length input - i) ≤ length out₀
+  pub room : at + byteRoom * (length input - i) ≤ length out₀
   pub kept : drop at out ≡ drop at out₀
   pub text : take at out ++ replies (tableIn len t) (linesOf (drop i input)) ≡ replies [] (linesOf input)
 
-pub so-begins : (input out t : List ℕ) → 6 * length input ≤ length out → So input out out t 0 0 0
+pub so-begins : (input out t : List ℕ) → byteRoom * length input ≤ length out → So input out out t 0 0 0
 so-begins input out t h = record { size = refl; within = omega arith; room = omega arith; kept = refl; text = refl }
 
-module _ (input out₀ out t t′ : List ℕ) (len len′ at i end : ℕ) (r : Reply) (so : So input out₀ out t len at i) (more : i < length input) (ends : Ends input i end) where
+module _ {input out₀ out t : List ℕ} {len at i end : ℕ} (so : So input out₀ out t len at i) (more : i < length input) (ends : Ends input i end) where
   abbrev line : List ℕ
   line = take (end - i) (drop i input)
 
   abbrev o : Outcome
   o = respond (tableIn len t) (commandOf line)
 
-  module _ (after : After o (6 * max 1 (length line)) r len′ t′) where
-    abbrev bs : List ℕ
-    bs = printed (replyAnswer r)
+  module _ {r : Answered} {t′ : List ℕ} (after : After o (lineRoom line) r t′) where
+    pub fits : at + replyMost (r .reply) ≤ length out
+    fits = omega (arith, so .room, so .size, after .reply .short, line-length input i end ends, ends .within, ends .behind)
 
-    pub fits : at + length bs ≤ length out
-    fits = omega (arith, so .room, so .size, after .short, line-length input i end ends, ends .within, ends .behind)
+    module _ {out′ : List ℕ} {at′ : ℕ} (p : Puts (r .reply) at out (at′, out′)) where
+      abbrev bs : List ℕ
+      bs = printed (replyAnswer (r .reply))
 
-    module _ (out′ : List ℕ) (at′ : ℕ) (put : Put out out′ at at′ bs) where
-      text-more : take at′ out′ ++ replies (tableIn len′ t′) (linesOf (drop (end + 1) input)) ≡ replies [] (linesOf input)
+      text-more : take at′ out′ ++ replies (tableIn (r .len) t′) (linesOf (drop (end + 1) input)) ≡ replies [] (linesOf input)
       unfolding replies
       text-more =
-          ap₂ (λ (l w : List ℕ). l ++ replies w (linesOf (drop (end + 1) input))) (put-front out out′ at at′ bs put fits) (after .words)
+          ap₂ (λ (l w : List ℕ). l ++ replies w (linesOf (drop (end + 1) input))) (put-front (p .put)) (after .words)
           ∙ append-assoc (take at out) bs _
-          ∙ ap (λ (x : Answer). take at out ++ (printed x ++ replies (o .after) (linesOf (drop (end + 1) input)))) (after .answer)
+          ∙ ap (λ (x : Answer). take at out ++ (printed x ++ replies (o .after) (linesOf (drop (end + 1) input)))) (after .reply .answer)
           ∙ ap (λ (ls : List (List ℕ)). take at out ++ replies (tableIn len t) ls) (sym (lines-more input i end more ends))
           ∙ so .text
 
       kept-more : drop at′ out′ ≡ drop at′ out₀
       kept-more =
-          put-behind out out′ at at′ bs put fits
-          ∙ ap (λ (n : ℕ). drop n out) (put .next) ∙ sym (drop-drop (length bs) at out)
+          put-behind (p .put)
+          ∙ ap (λ (n : ℕ). drop n out) (p .put .next) ∙ sym (drop-drop (length bs) at out)
           ∙ ap (drop (length bs)) (so .kept)
-          ∙ drop-drop (length bs) at out₀ ∙ ap (λ (n : ℕ). drop n out₀) (sym (put .next))
+          ∙ drop-drop (length bs) at out₀ ∙ ap (λ (n : ℕ). drop n out₀) (sym (p .put .next))
 
-      pub so-more : So input out₀ out′ t′ len′ at′ (end + 1)
+      pub so-more : So input out₀ out′ t′ (r .len) at′ (end + 1)
       so-more =
           record {
-            size = put-length put ∙ so .size;
+            size = put-length (p .put) ∙ so .size;
             within = after .within;
-            room = omega (arith, so .room, after .short, line-length input i end ends, ends .within, ends .behind, put .next);
+            room = omega (arith, so .room, after .reply .short, line-length input i end ends, ends .within, ends .behind, p .short);
             kept = kept-more;
             text = text-more;
           }
@@ -113,13 +114,9 @@ so-ends input out₀ out t len at i so h =
     }
 
 -- what stands alone at the front is all that is written
-pub put-written : (l₀ l₁ : List ℕ) (to : ℕ) (bs : List ℕ) → Put l₀ l₁ 0 to bs → length bs ≤ length l₀ → Written bs l₀ (to, l₁)
-put-written l₀ l₁ to bs p h =
-    let f : 0 + length bs ≤ length l₀ = omega arith in
-    record {
-      count = omega (arith, p .next);
-      bytes = sym (take-append-drop to l₁) ∙ ap₂ (λ (x y : List ℕ). x ++ y) (put-front l₀ l₁ 0 to bs p f) (put-behind l₀ l₁ 0 to bs p f);
-    }
+pub put-written : {l₀ l₁ : List ℕ} {to : ℕ} {bs : List ℕ} → Put bs 0 l₀ (to, l₁) → Written bs l₀ (to, l₁)
+put-written {l₁ = l₁} {to = to} p =
+    record { count = omega (arith, p .next); bytes = sym (take-append-drop to l₁) ∙ ap₂ (λ (x y : List ℕ). x ++ y) (put-front p) (put-behind p) }
 
 pub written-counts : {text before after : List ℕ} {r : ℕ} → Written text before (r, after) → Counts r after
 written-counts {text} {before} {after} {r} w =

@@ -1,16 +1,17 @@
--- What the program's own enum means, and what its steps leave.
+-- What the program's own enum means, how much room its steps take, and what they leave.
 use mathlib.Core.Path.{_≡_}
-use mathlib.Core.List.{List, [], _∷_, _++_}
+use mathlib.Core.List.{List, [], _∷_}
 use mathlib.Core.Logic.{_≢_}
-use Prim.Native.Nat.{ℕ, _+_, _*_, _<_, _≤_}
-use lib.ListN.{length, take, drop}
-use lib.Seq.{sets}
+use Prim.Native.Nat.{ℕ, _+_, _*_, _<_, _≤_, max}
+use lib.ListN.{length, take}
 use Rattle.rules.specs.Table.{_!_, runLength, mostSeats}
 use Rattle.rules.specs.Answers.{Answer, fine, refused, Outcome}
+use Rattle.decimals.specs.Places.{Put}
 use Rattle.transcript.specs.Printing.{printed}
 use Rattle.transcript.specs.Transcript.{lineRefused}
 use Rattle.transcript.specs.declared.Reply.{Reply}
 use Rattle.transcript.specs.declared.Reply.the-variants as reply
+use Rattle.transcript.specs.declared.Answered.{Answered}
 
 abbrev pub replyAnswer : Reply → Answer
 replyAnswer (reply.One v) = fine (v ∷ [])
@@ -18,21 +19,48 @@ replyAnswer (reply.Three v w x) = fine (v ∷ w ∷ x ∷ [])
 replyAnswer (reply.No r) = refused r
 replyAnswer reply.Unknown = lineRefused
 
--- bs stand at `at`, and the next place is behind them
-pub record Put (before after : List ℕ) (at to : ℕ) (bs : List ℕ) : Type 0 where
-  pub bytes : after ≡ sets before at bs
-  pub next : to ≡ at + length bs
+-- the bytes of a number of 32 bits behind a space, at the most: ten digits
+abbrev pub valueMost : ℕ
+valueMost = 11
+
+-- the bytes of a line of k such numbers, at the most: a word of two, the numbers, and LF
+abbrev pub lineMost : ℕ → ℕ
+lineMost k = 2 + valueMost * k + 1
+
+-- the bytes of the output for each byte of the input: an empty line is one byte, LF, and its answer `no 11` and LF six
+abbrev pub byteRoom : ℕ
+byteRoom = 6
+
+-- room for the answer to a line
+abbrev pub lineRoom : List ℕ → ℕ
+lineRoom line = byteRoom * max 1 (length line)
+
+-- the bytes that a reply takes, at the most
+abbrev pub replyMost : Reply → ℕ
+replyMost (reply.One v) = lineMost 1
+replyMost (reply.Three v w x) = lineMost 3
+replyMost (reply.No r) = lineMost 1
+replyMost reply.Unknown = byteRoom
+
+-- a reply's line is put
+pub record Puts (r : Reply) (at : ℕ) (before : List ℕ) (o : ℕ × List ℕ) : Type 0 where
+  pub put : Put (printed (replyAnswer r)) at before o
+  pub short : o .0 ≤ at + replyMost r
+
+-- an answer that takes so many bytes at the most
+pub record Short (x : Answer) (most : ℕ) (r : Reply) : Type 0 where
+  pub answer : replyAnswer r ≡ x
+  pub short : replyMost r ≤ most
 
 -- the words of the table are the first `len` of the lent ones
 abbrev pub tableIn : ℕ → List ℕ → List ℕ
 tableIn len t = take len t
 
--- an answer that prints in so many bytes at the most, and the table after it
-pub record After (o : Outcome) (most : ℕ) (r : Reply) (len : ℕ) (t : List ℕ) : Type 0 where
-  pub answer : replyAnswer r ≡ o .answer
-  pub words : tableIn len t ≡ o .after
-  pub within : len ≤ length t
-  pub short : length (printed (replyAnswer r)) ≤ most
+-- such an answer, and the table after it
+pub record After (o : Outcome) (most : ℕ) (r : Answered) (t : List ℕ) : Type 0 where
+  pub reply : Short (o .answer) most (r .reply)
+  pub words : tableIn (r .len) t ≡ o .after
+  pub within : r .len ≤ length t
 
 -- the line that begins at `at` ends at r
 pub record Ends (s : List ℕ) (at r : ℕ) : Type 0 where
@@ -41,13 +69,8 @@ pub record Ends (s : List ℕ) (at r : ℕ) : Type 0 where
   pub none : (k : ℕ) → at ≤ k → k < r → s ! k ≢ 10
   pub isEnd : r < length s → s ! r ≡ 10
 
--- room for the input's lines: a table, a list of ids, and six bytes for each byte
+-- room for the input's lines: a table, a list of ids, and the output
 pub record Lent (input t ids out : List ℕ) : Type 0 where
   pub table : length t ≡ runLength mostSeats
   pub list : length input ≤ 2 * length ids
-  pub room : 6 * length input ≤ length out
-
--- the text's length, and the output after it: the text is written, and the rest is as it was
-pub record Written (text before : List ℕ) (o : ℕ × List ℕ) : Type 0 where
-  pub count : o .0 ≡ length text
-  pub bytes : o .1 ≡ text ++ drop (o .0) before
+  pub room : byteRoom * length input ≤ length out

@@ -20,12 +20,16 @@ lineRefused = record { number = 11; values = [] }
 abbrev pub reopened : List ℕ → Outcome → Outcome
 reopened w o = cond (eqb (o .answer .number) 0) o (record { answer = o .answer; after = w })
 
+-- a lookup leaves the table
+abbrev pub looked : List ℕ → ℕ → Outcome
+looked w key = record { answer = findCall w key; after = w }
+
 -- what a command answers, and the words of the table after it
 unfoldable pub respond : List ℕ → Command → Outcome
 respond w (openLine a ids) = reopened w (openCall (replicate (runLength a) 0) a ids)
 respond w (seatLine id) = seatCall w id
 respond w (outLine id) = outCall w id
-respond w (findLine key) = record { answer = findCall w key; after = w }
+respond w (findLine key) = looked w key
 respond w unknown = record { answer = lineRefused; after = w }
 
 -- each line gets one answer

@@ -1,25 +1,30 @@
 // The program `seats` as a function on bytes: from its input to its output.
 ghost use mathlib.Core.Path.{_≡_};
 ghost use mathlib.Core.List.{[], _∷_};
-ghost use Prim.Native.Nat.{_+_, _*_, _≤_, _<_, max};
+ghost use Prim.Native.Nat.{_+_, _*_, _≤_, _<_};
 ghost use lib.ListN.{length, replicate};
 ghost use Rattle.io.specs.Counts.{Counts};
-ghost use Rattle.transcript.specs.Printing.{decimal, said, okWord, printed};
-ghost use Rattle.transcript.specs.Replies.{replyAnswer, Put, tableIn, After, Ends, Lent, Written};
-ghost use Rattle.transcript.specs.Transcript.{reopened, respond, replies, transcript};
-ghost use Rattle.lines.specs.Lines.{linesOf, commandOf};
 ghost use Rattle.rules.specs.Table.{runLength, mostSeats};
+ghost use Rattle.decimals.specs.Decimal.{decimal};
+ghost use Rattle.decimals.specs.Places.{Put};
+ghost use Rattle.lines.specs.Lines.{space, spaced, linesOf, commandOf};
 ghost use Rattle.changes.specs.Calls.{changedAnswer, openCall, seatCall, outCall};
-ghost use Rattle.find.specs.Find.{lookupAnswer, findCall};
-ghost use Rattle.rules.specs.Answers.{fine};
+ghost use Rattle.find.specs.Find.{lookupAnswer};
+ghost use Rattle.transcript.specs.Printing.{said};
+ghost use Rattle.transcript.specs.Transcript.{reopened, looked, respond, replies, transcript};
+ghost use Rattle.transcript.specs.Replies.{lineMost, lineRoom, replyMost, Puts, Short, tableIn, After, Ends, Lent};
+ghost use Rattle.transcript.specs.Written.{Written};
 use changes::Changed;
 use changes::Opened;
 use changes::open_table;
 use changes::seat_server;
 use changes::take_out;
+use decimals::put_bytes;
+use decimals::put_decimal;
 use find::Lookup;
 use find::find_server;
 use lines::Line;
+use lines::SPACE;
 use lines::command;
 use parts::MOST_WORDS;
 use parts::PARTS;
@@ -28,12 +33,15 @@ use rules::MOST_SEATS;
 use rules::Refusal;
 use rules::number;
 
-// The bytes of the longest input; its ids, each with a space before it; and its answers: an empty line takes one byte, and its answer six.
+// The bytes of the longest input, and its ids, each with a space before it.
 pub const MOST_INPUT: usize = 4096;
 
 const MOST_IDS: usize = MOST_INPUT / 2;
 
-pub const MOST_OUTPUT: usize = 6 * MOST_INPUT;
+// The bytes of the output for each byte of the input: `byteRoom` of specs/Replies.
+const BYTE_ROOM: usize = 6;
+
+pub const MOST_OUTPUT: usize = BYTE_ROOM * MOST_INPUT;
 
 // The program does not know the line.
 const LINE: u32 = 11;
@@ -46,75 +54,56 @@ enum Reply {
     Unknown,
 }
 
-fn put_bytes(out: &mut [u8], at: usize, s: &[u8]) -> usize
-    requires { ⌜ at + length (now s) ≤ length (now out) ⌝ }
-    ensures { λ r. ⌜ Put (now (out .entry)) (now (out .exit)) at r (now (s .entry)) ⌝ }
-{
-    let mut i: usize = 0;
-    while i < s.len() {
-        out[at + i] = s[i];
-        i += 1;
-    }
-    at + i
-}
-
-fn put_decimal(out: &mut [u8], at: usize, v: u32) -> usize
-    requires { ⌜ at + length (decimal v) ≤ length (now out) ⌝ }
-    ensures { λ r. ⌜ Put (now (out .entry)) (now (out .exit)) at r (decimal v) ⌝ }
-{
-    let mut text = [0u8; 20];
-    let n = io::decimal(v as u64, &mut text);
-    put_bytes(out, at, &text[..n])
-}
-
 fn put_value(out: &mut [u8], at: usize, v: u32) -> usize
-    requires { ⌜ at + length (32 ∷ decimal v) ≤ length (now out) ⌝ }
-    ensures { λ r. ⌜ Put (now (out .entry)) (now (out .exit)) at r (32 ∷ decimal v) ⌝ }
+    requires { ⌜ at + length (space ∷ decimal v) ≤ length (now out) ⌝ }
+    ensures { λ r. ⌜ Put (space ∷ decimal v) at (now (out .entry)) (r, now (out .exit)) ⌝ }
 {
-    out[at] = 32;
-    put_decimal(out, at + 1, v)
+    out[at] = SPACE;
+    put_decimal(out, at + 1, v as u64)
 }
 
 fn put_end(out: &mut [u8], at: usize) -> usize
     requires { ⌜ at < length (now out) ⌝ }
-    ensures { λ r. ⌜ Put (now (out .entry)) (now (out .exit)) at r (10 ∷ []) ⌝ }
+    ensures { λ r. ⌜ Put (10 ∷ []) at (now (out .entry)) (r, now (out .exit)) ⌝ }
 {
     out[at] = 10;
     at + 1
 }
 
-// A word and one number.
-fn put_one(out: &mut [u8], at: usize, word: &[u8], v: u32) -> usize
-    requires { ⌜ at + length (said (now word) (v ∷ [])) ≤ length (now out) ⌝ }
-    ensures { λ r. ⌜ Put (now (out .entry)) (now (out .exit)) at r (said (now (word .entry)) (v ∷ [])) ⌝ }
+// Numbers, each behind a space.
+fn put_values(out: &mut [u8], at: usize, values: &[u32]) -> usize
+    requires { ⌜ at + length (spaced (now values)) ≤ length (now out) ⌝ }
+    ensures { λ r. ⌜ Put (spaced (now (values .entry))) at (now (out .entry)) (r, now (out .exit)) ⌝ }
 {
-    let to = put_bytes(out, at, word);
-    let to = put_value(out, to, v);
-    put_end(out, to)
+    let mut to = at;
+    let mut i: usize = 0;
+    while i < values.len() {
+        to = put_value(out, to, values[i]);
+        i += 1;
+    }
+    to
 }
 
-// ok and three numbers.
-fn put_three(out: &mut [u8], at: usize, v: u32, w: u32, x: u32) -> usize
-    requires { ⌜ at + length (said okWord (v ∷ w ∷ x ∷ [])) ≤ length (now out) ⌝ }
-    ensures { λ r. ⌜ Put (now (out .entry)) (now (out .exit)) at r (said okWord (v ∷ w ∷ x ∷ [])) ⌝ }
+// A word, numbers, and LF.
+fn put_line(out: &mut [u8], at: usize, word: &[u8], values: &[u32]) -> usize
+    requires { ⌜ at + length (said (now word) (now values)) ≤ length (now out) ⌝ }
+    ensures { λ r. ⌜ Put (said (now (word .entry)) (now (values .entry))) at (now (out .entry)) (r, now (out .exit)) ⌝ }
 {
-    let to = put_bytes(out, at, b"ok");
-    let to = put_value(out, to, v);
-    let to = put_value(out, to, w);
-    let to = put_value(out, to, x);
+    let to = put_bytes(out, at, word);
+    let to = put_values(out, to, values);
     put_end(out, to)
 }
 
 // The line that an answer prints.
 fn put_reply(out: &mut [u8], at: usize, reply: Reply) -> usize
-    requires { ⌜ at + length (printed (replyAnswer reply)) ≤ length (now out) ⌝ }
-    ensures { λ r. ⌜ Put (now (out .entry)) (now (out .exit)) at r (printed (replyAnswer reply)) ⌝ }
+    requires { ⌜ at + replyMost reply ≤ length (now out) ⌝ }
+    ensures { λ r. ⌜ Puts reply at (now (out .entry)) (r, now (out .exit)) ⌝ }
 {
     match reply {
-        Reply::One(v) => put_one(out, at, b"ok", v),
-        Reply::Three(v, w, x) => put_three(out, at, v, w, x),
-        Reply::No(why) => put_one(out, at, b"no", number(why)),
-        Reply::Unknown => put_one(out, at, b"no", LINE),
+        Reply::One(v) => put_line(out, at, b"ok", &[v]),
+        Reply::Three(v, w, x) => put_line(out, at, b"ok", &[v, w, x]),
+        Reply::No(why) => put_line(out, at, b"no", &[number(why)]),
+        Reply::Unknown => put_line(out, at, b"no", &[LINE]),
     }
 }
 
@@ -125,7 +114,7 @@ struct Answered {
 }
 
 fn changed(c: Changed) -> Reply
-    ensures { λ r. ⌜ (replyAnswer r ≡ changedAnswer c) × (length (printed (replyAnswer r)) ≤ 24) ⌝ }
+    ensures { λ r. ⌜ Short (changedAnswer c) (lineMost 1) r ⌝ }
 {
     match c {
         Changed::At(b) => Reply::One(b.0),
@@ -133,18 +122,11 @@ fn changed(c: Changed) -> Reply
     }
 }
 
-// Three numbers of 32 bits: ten digits each.
-fn three(v: u32, w: u32, x: u32) -> Reply
-    ensures { λ r. ⌜ (replyAnswer r ≡ fine (v ∷ w ∷ x ∷ [])) × (length (printed (replyAnswer r)) ≤ 36) ⌝ }
-{
-    Reply::Three(v, w, x)
-}
-
 fn found(l: Lookup) -> Reply
-    ensures { λ r. ⌜ (replyAnswer r ≡ lookupAnswer l) × (length (printed (replyAnswer r)) ≤ 36) ⌝ }
+    ensures { λ r. ⌜ Short (lookupAnswer l) (lineMost 3) r ⌝ }
 {
     match l {
-        Lookup::On(b, server, draws) => three(b.0, server, draws),
+        Lookup::On(b, server, draws) => Reply::Three(b.0, server, draws),
         Lookup::Refused(why) => Reply::No(why),
     }
 }
@@ -152,7 +134,7 @@ fn found(l: Lookup) -> Reply
 // Opening in the first words of the lent ones; a refused open keeps the old table.
 fn reopen(t: &mut [u32], len: usize, a: u32, ids: &[u32]) -> Answered
     requires { ⌜ (length (now t) ≡ runLength mostSeats) × (len ≤ length (now t)) ⌝ }
-    ensures { λ r. ⌜ After (reopened (tableIn len (now (t .entry))) (openCall (replicate (runLength a) 0) a (now (ids .entry)))) 24 (r .reply) (r .len) (now (t .exit)) ⌝ }
+    ensures { λ r. ⌜ After (reopened (tableIn len (now (t .entry))) (openCall (replicate (runLength a) 0) a (now (ids .entry)))) (lineMost 1) r (now (t .exit)) ⌝ }
 {
     if MOST_SEATS < a as usize {
         return Answered {
@@ -173,46 +155,40 @@ fn reopen(t: &mut [u32], len: usize, a: u32, ids: &[u32]) -> Answered
     }
 }
 
-fn seat_in(t: &mut [u32], len: usize, id: u32) -> Reply
+fn seat_in(t: &mut [u32], len: usize, id: u32) -> Answered
     requires { ⌜ len ≤ length (now t) ⌝ }
-    ensures { λ r. ⌜ After (seatCall (tableIn len (now (t .entry))) id) 24 r len (now (t .exit)) ⌝ }
+    ensures { λ r. ⌜ After (seatCall (tableIn len (now (t .entry))) id) (lineMost 1) r (now (t .exit)) ⌝ }
 {
-    changed(seat_server(&mut t[..len], id))
+    let reply = changed(seat_server(&mut t[..len], id));
+    Answered { reply, len }
 }
 
-fn out_in(t: &mut [u32], len: usize, id: u32) -> Reply
+fn out_in(t: &mut [u32], len: usize, id: u32) -> Answered
     requires { ⌜ len ≤ length (now t) ⌝ }
-    ensures { λ r. ⌜ After (outCall (tableIn len (now (t .entry))) id) 24 r len (now (t .exit)) ⌝ }
+    ensures { λ r. ⌜ After (outCall (tableIn len (now (t .entry))) id) (lineMost 1) r (now (t .exit)) ⌝ }
 {
-    changed(take_out(&mut t[..len], id))
+    let reply = changed(take_out(&mut t[..len], id));
+    Answered { reply, len }
 }
 
-fn find_in(t: &[u32], len: usize, key: u64) -> Reply
+fn find_in(t: &[u32], len: usize, key: u64) -> Answered
     requires { ⌜ len ≤ length (now t) ⌝ }
-    ensures { λ r. ⌜ (replyAnswer r ≡ findCall (tableIn len (now (t .entry))) key) × (length (printed (replyAnswer r)) ≤ 36) ⌝ }
+    ensures { λ r. ⌜ After (looked (tableIn len (now (t .entry))) key) (lineMost 3) r (now (t .entry)) ⌝ }
 {
-    found(find_server(&t[..len], key))
+    let reply = found(find_server(&t[..len], key));
+    Answered { reply, len }
 }
 
 // The answer to a line.
 fn answer_line(line: &[u8], t: &mut [u32], len: usize, ids: &mut [u32]) -> Answered
     requires { ⌜ (length (now line) ≤ 2 * length (now ids)) × (length (now t) ≡ runLength mostSeats) × (len ≤ length (now t)) ⌝ }
-    ensures { λ r. ⌜ After (respond (tableIn len (now (t .entry))) (commandOf (now (line .entry)))) (6 * max 1 (length (now (line .entry)))) (r .reply) (r .len) (now (t .exit)) ⌝ }
+    ensures { λ r. ⌜ After (respond (tableIn len (now (t .entry))) (commandOf (now (line .entry)))) (lineRoom (now (line .entry))) r (now (t .exit)) ⌝ }
 {
     match command(line, ids) {
         Line::Open(a, n) => reopen(t, len, a, &ids[..n]),
-        Line::Seat(id) => {
-            let reply = seat_in(t, len, id);
-            Answered { reply, len }
-        }
-        Line::Out(id) => {
-            let reply = out_in(t, len, id);
-            Answered { reply, len }
-        }
-        Line::Find(key) => {
-            let reply = find_in(t, len, key);
-            Answered { reply, len }
-        }
+        Line::Seat(id) => seat_in(t, len, id),
+        Line::Out(id) => out_in(t, len, id),
+        Line::Find(key) => find_in(t, len, key),
         Line::Unknown => Answered {
             reply: Reply::Unknown,
             len,

@@ -1,13 +1,12 @@
 -- `audit::all_pass` meets its contract. The loop's invariant: what is below i is decided.
--- Assumes nothing.
 use native.Mathlib.Omega.{arith}
 use mathlib.Core.Path.{_≡_}
 use borrow.Author.Needs.{needs}
 use Prim.Native.Nat.{_≤_, _-_}
 use Rattle.rules.specs.Table.{tableFor}
 use Rattle.promises.specs.Decides.{Decides}
-use Rattle.audit.specs.Pass.{AllPass}
-use Rattle.audit.proofs.Decisions.{pass-none, pass-more}
+use Rattle.promises.proofs.Decided.{decides-more}
+use Rattle.audit.specs.Pass.{IndexPasses, AllPass}
 use Rattle.audit.proofs.all_pass.Statement.{statement}
 use Rattle.audit.proofs.all_pass.Tie as tie
 
@@ -19,8 +18,8 @@ abbrev μ-loop : tie.MeasureT-loop
 
 loop-again : tie.Need-loop-again Inv-loop μ-loop
 loop-again c =
-    let l = c .before .before .before in
-    (search needs, pass-more _ _ (l .loop .ok) (c .before .seat-passes .result) (c .removal-passes .result) (l .loop .inv .1) (c .before .seat-passes .ensures) (c .removal-passes .ensures))
+    let l = c .before .before in
+    (search needs, decides-more (IndexPasses _) _ (l .loop .ok) (c .index-passes .result) (l .loop .inv .1) (c .index-passes .ensures))
 
 returns : tie.Need-returns Inv-loop μ-loop
 returns c =
@@ -31,15 +30,6 @@ returns c =
 pub all-pass-spec : {M : Type 1} → statement M
 all-pass-spec =
     tie.close
-    (tie.spec
-    Inv-loop
-    μ-loop
-    (λ c. (search needs, pass-none _))
-    (λ c. search needs)
-    (λ c. search needs)
-    (λ c κs. search needs)
-    (λ c κs. search needs)
-    (λ c. search needs)
-    (λ c. search needs)
-    loop-again
-    returns)
+    (tie.spec Inv-loop μ-loop
+    (λ c. (search needs, λ i h. absurd (omega arith)))
+    (λ c κs. search needs) (λ c. search needs) (λ c. search needs) loop-again returns)

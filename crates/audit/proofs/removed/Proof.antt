@@ -1,5 +1,4 @@
 -- `audit::removed` meets its contract: each way out has met, or missed, a word that `Removed` names.
--- Assumes nothing.
 use native.Mathlib.Omega.{arith}
 use borrow.Author.Needs.{needs}
 use Rattle.sound.specs.Test.{stood}
@@ -31,23 +30,6 @@ returns-7 c = removed-moved _ _ _ _ _ (c .owes .result) (search needs) (search n
 pub removed-spec : {M : Type 1} → statement M
 removed-spec =
     tie.close
-    (tie.spec
-    (λ c. search needs)
-    returns
-    (λ c. search needs)
-    (λ c. search needs)
-    (λ c κs. search needs)
-    (λ c. search needs)
-    returns-2
-    (λ c. search needs)
-    (λ c κs. search needs)
-    (λ c κs. search needs)
-    returns-3
-    returns-4
-    (λ c. search needs)
-    returns-5
-    (λ c κs. search needs)
-    (λ c. search needs)
-    returns-6
-    (λ c κs. search needs)
-    returns-7)
+    (tie.spec (λ c. search needs) returns (λ c. search needs) (λ c. search needs) (λ c κs. search needs) (λ c. search needs) returns-2 (λ c. search needs)
+    (λ c κs. search needs) (λ c κs. search needs) returns-3 returns-4 (λ c. search needs) returns-5 (λ c κs. search needs) (λ c. search needs) returns-6
+    (λ c κs. search needs) returns-7)

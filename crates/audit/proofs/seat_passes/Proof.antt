@@ -1,5 +1,4 @@
 -- `audit::seat_passes` meets its contract: each way out has met, or missed, a word that `SeatPasses` names.
--- Assumes nothing.
 use native.Mathlib.Omega.{arith}
 use borrow.Author.Needs.{needs}
 use Rattle.audit.proofs.Decisions.{seat-used, seat-out}
@@ -34,21 +33,5 @@ returns-8 c =
 pub seat-passes-spec : {M : Type 1} → statement M
 seat-passes-spec =
     tie.close
-    (tie.spec
-    (λ c κs. search needs)
-    (λ c κs. search needs)
-    (λ c. search needs)
-    returns
-    (λ c κs. search needs)
-    returns-2
-    (λ c κs. search needs)
-    returns-3
-    returns-4
-    returns-5
-    returns-6
-    (λ c. search needs)
-    (λ c. search needs)
-    (λ c κs. search needs)
-    returns-7
-    (λ c κs. search needs)
-    returns-8)
+    (tie.spec (λ c κs. search needs) (λ c κs. search needs) (λ c. search needs) returns (λ c κs. search needs) returns-2 (λ c κs. search needs) returns-3
+    returns-4 returns-5 returns-6 (λ c. search needs) (λ c. search needs) (λ c κs. search needs) returns-7 (λ c κs. search needs) returns-8)

@@ -1,5 +1,4 @@
 -- `changes::seat_server` meets its contract: it refuses as the audit does, or the table is sound.
--- Assumes nothing.
 use borrow.Author.Needs.{needs}
 use mathlib.Core.Path.{sym, ap, _∙_}
 use Rattle.audit.specs.Audit.{auditedAnswer}
@@ -21,12 +20,5 @@ returns-2 c =
 pub seat-server-spec : {M : Type 1} → statement M
 seat-server-spec =
     tie.close
-    (tie.spec
-    (λ c κs. search needs)
-    (λ c. search needs)
-    (λ c. search needs)
-    seat-sound-requires
-    (λ c. search needs)
-    (λ c. search needs)
-    (λ c. search needs)
+    (tie.spec (λ c κs. search needs) (λ c. search needs) (λ c. search needs) seat-sound-requires (λ c. search needs) (λ c. search needs) (λ c. search needs)
     returns-2)

@@ -1,90 +1,79 @@
--- `changes::seat_sound` meets its contract: each way out is one of `Told`.
--- Assumes nothing.
+-- `changes::seat_sound` meets its contract: each way out is the first refusal that applies, or there is none.
 use native.Mathlib.Omega.{arith}
 use borrow.Author.Needs.{needs}
-use mathlib.Core.Path.{_≡_, sym, ap, ap₂, _∙_}
+use borrow.Author.Tests.{eq-eqb, ne-eqb}
+use mathlib.Core.Path.{_≡_, sym, ap₂, _∙_}
 use mathlib.Core.Bool.{false}
 use mathlib.Core.List.{List, [], _∷_}
 use mathlib.Core.Logic.{_≢_}
 use Prim.Native.Nat.{ℕ}
+use lib.Dec.{eqb}
 use Rattle.rules.specs.Table.{_!_, tableOf}
 use Rattle.rules.specs.Ids.{occurs}
-use Rattle.rules.specs.Answers.{done}
-use Rattle.changes.proofs.Ready.{long, leads, seatable}
-use Rattle.changes.proofs.Told.{seat-zero, seat-twice, seat-full, seat-done}
+use Rattle.rules.specs.Answers.{done, none, more}
+use Rattle.rules.proofs.Occasions.{here, later}
+use Rattle.sound.proofs.Sound.{sound-legal}
+use Rattle.changes.proofs.Ready.{long, tested, roomy}
+use Rattle.changes.proofs.Told.{seat-first, seat-done}
 use Rattle.changes.proofs.seat_sound.Statement.{statement}
 use Rattle.changes.proofs.seat_sound.Tie as tie
 
--- what the search among the ids tells
-found : (c : tie.After-occurs-in) → let s = c .before .before .before .before .before .before .before in c .occurs-in .result ≡ occurs (s .args .id) (tableOf (s .args .t .now) .S)
-found c =
-    let a = c .before .before .before in
-    c .occurs-in .ensures ∙ ap (occurs _) (rw (a .get-seats .ensures) at (c .before .servers .ensures))
+-- what is known once the ids are searched
+zero : (c : tie.After-is-seated) → eqb (c .before .before .before .before .before .before .args .id) 0 ≡ false
+zero c = ne-eqb _ 0 (c .before .before .before .before .if1 .left)
 
-absent : (c : tie.Else2) → let s = c .before .before .before .before .before .before .before .before in occurs (s .args .id) (tableOf (s .args .t .now) .S) ≡ false
+found : (c : tie.After-is-seated) → let s = c .before .before .before .before .before .before in c .is-seated .result ≡ occurs (s .args .id) (tableOf (s .args .t .now) .S)
+found c = rw (c .before .before .get-seats .ensures) at (c .is-seated .ensures)
+
+absent : (c : tie.Else2) → let s = c .before .before .before .before .before .before .before in occurs (s .args .id) (tableOf (s .args .t .now) .S) ≡ false
 absent c = sym (found (c .before)) ∙ c .if2 .left
 
 returns : tie.Need-returns
-returns c = seat-zero _ _ (c .before .before .pre) (c .if1 .taken)
+returns c = seat-first (c .before .before .pre) _ (here (eq-eqb _ 0 (c .if1 .taken)))
 
-get-seats-requires : tie.Need-get-seats-requires
-get-seats-requires c κs = omega (arith, long _ (c .before .before .before .pre))
-
-servers-requires : tie.Need-servers-requires
-servers-requires c κs = let a = c .before in rw (a .get-seats .ensures) (leads _ (a .before .before .before .before .pre) .shape)
+is-seated-requires : tie.Need-is-seated-requires
+is-seated-requires c κs = let a = c .before in rw (a .get-seats .ensures) (sound-legal (a .before .before .before .before .pre) .shape)
 
 returns-2 : tie.Need-returns-2
-returns-2 c = let o = c .before in seat-twice _ _ (o .before .before .before .before .before .before .before .pre) (o .before .before .before .before .before .if1 .left) (sym (found o) ∙ c .if2 .taken)
-
-get-n-requires : tie.Need-get-n-requires
-get-n-requires c κs = long _ (c .before .before .before .before .before .before .before .before .before .pre)
+returns-2 c = let o = c .before in seat-first (o .before .before .before .before .before .before .pre) _ (later (zero o) (here (sym (found o) ∙ c .if2 .taken)))
 
 returns-3 : tie.Need-returns-3
 returns-3 c =
     let n = c .before in
     let e = n .before .before in
-    let a = e .before .before .before .before in
-    seat-full _ _ (e .before .before .before .before .before .before .before .before .pre) (e .before .before .before .before .before .before .if1 .left) (absent e) (omega arith)
+    let a = e .before .before .before in
+    let w = a .before .before .before .before .args .t .now in
+    seat-first (a .before .before .before .before .pre) _ (later (zero (e .before)) (later (absent e) (here (eq-eqb (w ! 1) (w ! 0) (omega (arith, n .get-n .ensures, c .if3, a .get-seats .ensures))))))
 
 -- there is room
-room : (c : tie.Else3) → let w = c .before .before .before .before .before .before .before .before .before .before .before .args .t .now in w ! 1 ≢ w ! 0
+room : (c : tie.Else3) → let w = c .before .before .before .before .before .before .before .before .before .before .args .t .now in w ! 1 ≢ w ! 0
 room c e =
     let n = c .before in
-    let a = n .before .before .before .before .before .before in
+    let a = n .before .before .before .before .before in
     c .if3 .left (n .get-n .ensures ∙ e ∙ sym (a .get-seats .ensures))
 
 seat-last-requires : tie.Need-seat-last-requires
 seat-last-requires c κs =
     let e = c .before in
-    let a = e .before .before .before .before .before .before .before in
+    let a = e .before .before .before .before .before .before in
     let s = a .before .before .before .before in
-    rw (a .get-seats .ensures) (leads _ (s .pre), seatable _ (s .pre) (room e))
+    rw (a .get-seats .ensures) (sound-legal (s .pre), tested _ (s .pre), roomy _ (s .pre) (room e))
 
 returns-4 : tie.Need-returns-4
 returns-4 c =
     let l = c .before .before in
     let r = l .before .before in
     let e = r .before .before .before in
-    let a = e .before .before .before .before in
-    let s = a .before .before .before .before in
+    let a = e .before .before .before in
     let o = rw (a .get-seats .ensures) at (l .seat-last .ensures) in
-    ap₂ (λ (b : ℕ) (w : List ℕ). done (b ∷ []) w) (o .seat) (o .run) ∙ seat-done _ _ (s .pre) (e .before .before .before .before .before .before .if1 .left) (absent e) (room r)
+    ap₂ (λ (b : ℕ) (w : List ℕ). done (b ∷ []) w) (o .seat) (o .run)
+    ∙ seat-done (a .before .before .before .before .pre) _ (more (zero (e .before)) (more (absent e) (more (ne-eqb _ _ (room r)) none)))
 
 pub seat-sound-spec : {M : Type 1} → statement M
 seat-sound-spec =
     tie.close
-    (tie.spec
-    returns
-    get-seats-requires
-    (λ c. search needs)
-    servers-requires
-    (λ c κs. search needs)
-    (λ c. search needs)
-    returns-2
-    get-n-requires
-    (λ c. search needs)
-    (λ c. search needs)
-    returns-3
-    seat-last-requires
-    (λ c. search needs)
-    returns-4)
+    (tie.spec returns
+    (λ c κs. omega (arith, long _ (c .before .before .before .pre)))
+    (λ c. search needs) is-seated-requires (λ c. search needs) returns-2
+    (λ c κs. long _ (c .before .before .before .before .before .before .before .before .pre))
+    (λ c. search needs) (λ c. search needs) returns-3 seat-last-requires (λ c. search needs) returns-4)

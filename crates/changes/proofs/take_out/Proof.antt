@@ -1,5 +1,4 @@
 -- `changes::take_out` meets its contract: it refuses as the audit does, or the table is sound.
--- Assumes nothing.
 use borrow.Author.Needs.{needs}
 use mathlib.Core.Path.{sym, ap, _∙_}
 use Rattle.audit.specs.Audit.{auditedAnswer}
@@ -21,12 +20,5 @@ returns-2 c =
 pub take-out-spec : {M : Type 1} → statement M
 take-out-spec =
     tie.close
-    (tie.spec
-    (λ c κs. search needs)
-    (λ c. search needs)
-    (λ c. search needs)
-    out-sound-requires
-    (λ c. search needs)
-    (λ c. search needs)
-    (λ c. search needs)
+    (tie.spec (λ c κs. search needs) (λ c. search needs) (λ c. search needs) out-sound-requires (λ c. search needs) (λ c. search needs) (λ c. search needs)
     returns-2)

@@ -1,12 +1,11 @@
 -- `fields::has_mark` meets its contract: it answers yes where both bytes are the mark's.
--- Assumes nothing.
 use native.Mathlib.Omega.{arith}
 use borrow.Author.Needs.{needs}
 use mathlib.Core.Path.{sym, ap, _∙_}
 use Prim.Native.Nat.{ℕ}
 use native.Mathlib.Nat.{add-zero}
 use Rattle.rules.specs.Table.{_!_}
-use Rattle.saved.proofs.Fields.{stands-byte}
+use Rattle.fields.proofs.Numbers.{stands-byte}
 use Rattle.fields.proofs.Stores.{mark-stands}
 use Rattle.fields.proofs.has_mark.Statement.{statement}
 use Rattle.fields.proofs.has_mark.Tie as tie

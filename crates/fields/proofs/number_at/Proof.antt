@@ -1,5 +1,4 @@
 -- `fields::number_at` meets its contract. The loop's invariant: x is the number that stands in the first i bytes.
--- Assumes nothing.
 use native.Mathlib.Omega.{arith}
 use borrow.Author.Needs.{needs}
 use mathlib.Core.Path.{_≡_, refl, sym, ap, _∙_}
@@ -8,8 +7,8 @@ use Prim.Native.Nat.{ℕ, _+_, _*_, _-_, _^_, _<_, _≤_}
 use native.Mathlib.Nat.{pow-le-pow-right, lt-of-lt-of-le}
 use native.Mathlib.Numerals.{add-one}
 use Rattle.rules.specs.Table.{_!_}
-use Rattle.saved.specs.Reader.{numberAt}
-use Rattle.saved.proofs.Fields.{number-below}
+use Rattle.fields.specs.Numbers.{numberAt}
+use Rattle.fields.proofs.Numbers.{number-below}
 use Rattle.fields.proofs.number_at.Statement.{statement}
 use Rattle.fields.proofs.number_at.Tie as tie
 
@@ -46,16 +45,8 @@ returns c =
 pub number-at-spec : {M : Type 1} → statement M
 number-at-spec =
     tie.close
-    (tie.spec
-    Inv-loop
-    μ-loop
-    (λ c. (search needs, refl))
-    (λ c. search needs)
-    (λ c. search needs)
+    (tie.spec Inv-loop μ-loop (λ c. (search needs, refl)) (λ c. search needs) (λ c. search needs)
     (λ c. omega (arith, c .shared-slice-known .given (c .before .before .before .args .at + c .before .before .loop .i)))
     (λ c. omega (arith, below c))
     (λ c. omega (arith, below c, c .shared-slice-known .given (c .before .before .before .args .at + c .before .before .loop .i)))
-    (λ c. search needs)
-    (λ c. search needs)
-    loop-again
-    returns)
+    (λ c. search needs) (λ c. search needs) loop-again returns)

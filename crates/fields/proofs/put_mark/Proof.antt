@@ -1,5 +1,4 @@
 -- `fields::put_mark` meets its contract: a mark is its two bytes.
--- Assumes nothing.
 use native.Mathlib.Omega.{arith}
 use borrow.Author.Needs.{needs}
 use lib.ListN.{length-set}

@@ -1,5 +1,4 @@
 -- `fields::put_number` meets its contract. The loop's invariant: the first i bytes of what is left are still to be stored.
--- Assumes nothing.
 use native.Mathlib.Omega.{arith}
 use borrow.Author.Needs.{needs}
 use mathlib.Core.Path.{_≡_, refl, sym, ap, _∙_}
@@ -7,8 +6,8 @@ use mathlib.Core.List.{List}
 use Prim.Native.Nat.{ℕ, suc, _+_, _-_, _/_, _%_, _≤_}
 use lib.ListN.{length, set, length-set}
 use lib.Seq.{sets}
-use Rattle.saved.specs.Record.{bytes}
-use Rattle.saved.proofs.Fields.{length-bytes}
+use Rattle.fields.specs.Numbers.{bytes}
+use Rattle.fields.proofs.Numbers.{length-bytes}
 use Rattle.fields.proofs.Stores.{sets-last}
 use Rattle.fields.proofs.put_number.Statement.{statement}
 use Rattle.fields.proofs.put_number.Tie as tie
@@ -42,15 +41,5 @@ returns c =
 pub put-number-spec : {M : Type 1} → statement M
 put-number-spec =
     tie.close
-    (tie.spec
-    Inv-loop
-    μ-loop
-    (λ c. (search needs, refl, refl))
-    (λ c. search needs)
-    (λ c. search needs)
-    (λ c. search needs)
-    (λ c. search needs)
-    (λ c. search needs)
-    loop-again
-    (λ c. search needs)
-    returns)
+    (tie.spec Inv-loop μ-loop (λ c. (search needs, refl, refl)) (λ c. search needs) (λ c. search needs) (λ c. search needs) (λ c. search needs)
+    (λ c. search needs) loop-again (λ c. search needs) returns)

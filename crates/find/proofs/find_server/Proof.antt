@@ -1,13 +1,14 @@
 -- `find::find_server` meets its contract: A and K are lent as the parts that the array rule reads, and its tests are those of `find` in their order.
--- Assumes nothing.
 use borrow.Author.Needs.{needs}
 use borrow.Author.Tests.{ne-eqb}
 use native.Mathlib.Omega.{arith}
 use native.Mathlib.Nat.{mod-lt}
 use mathlib.Core.Path.{_≡_, refl, sym, _∙_}
+use mathlib.Core.Bool.{true}
 use Rattle.splitmix.specs.Generator.{output}
-use Rattle.rules.specs.Table.{tableFor}
-use Rattle.parts.proofs.Sized.{illegal, Told, told-seats}
+use Rattle.rules.specs.Table.{tableFor, legal}
+use Rattle.rules.specs.Runs.{Legal}
+use Rattle.parts.proofs.Sized.{illegal, told-seats}
 use Rattle.find.specs.declared.Drawn.{Drawn}
 use Rattle.find.specs.Steps.{lookedOf}
 use Rattle.find.specs.Find.{served, findCall}
@@ -15,7 +16,7 @@ use Rattle.find.proofs.find_server.Statement.{statement}
 use Rattle.find.proofs.find_server.Tie as tie
 
 -- the run is for a seats
-told : (c : tie.After-known-told) → Told (c .before .before .before .before .before .args .t .now) (c .before .a .given .0 .0)
+told : (c : tie.After-known-told) → let w = c .before .before .before .before .before .args .t .now in (legal w ≡ true) × Legal w (c .before .a .given .0 .0)
 told c = told-seats _ _ (sym (c .before .before .before .size-of .ensures) ∙ c .before .a .given .1)
 
 returns : tie.Need-returns
@@ -25,7 +26,7 @@ returns c = rw (illegal _ (sym (c .before .before .size-of .ensures) ∙ c .enum
 look-up-requires : tie.Need-look-up-requires
 look-up-requires c κs =
     let p = c .before .before in
-    let t = told (p .before) in
+    let t = told (p .before) .1 in
     let low = mod-lt (output 1 (p .before .before .before .before .before .before .args .key)) (t .some) in
     record { alike = omega arith; most = omega arith; below = omega arith }
 
@@ -38,7 +39,7 @@ led f r e =
     let p = f .before .before .before in
     let s = f .before .before .before .before .before .before .before .before .before in
     let t = told (p .before) in
-    rw (t .isLegal, t .first, ← e, f .look-up .ensures .rule, f .before .before .lend .ensures .0, f .before .lend2 .ensures .0, p .first-seat .ensures) refl
+    rw (t .0, t .1 .first, ← e, f .look-up .ensures .rule, f .before .before .lend .ensures .0, f .before .lend2 .ensures .0, p .first-seat .ensures) refl
 
 returns-2 : tie.Need-returns-2
 returns-2 c = sym (led (c .before .before) _ (c .enum-told2 .given .1))
@@ -46,7 +47,7 @@ returns-2 c = sym (led (c .before .before) _ (c .enum-told2 .given .1))
 get-s-requires : tie.Need-get-s-requires
 get-s-requires c κs =
     let f = c .before .before .before in
-    let t = told (f .before .before .before .before) in
+    let t = told (f .before .before .before .before) .1 in
     let w = rw (c .before .b .given .1) at (f .look-up .ensures .within) in
     (t .shape, omega arith)
 
@@ -63,19 +64,7 @@ returns-4 c =
 pub find-server-spec : {M : Type 1} → statement M
 find-server-spec =
     tie.close
-    (tie.spec
-    (λ c κs. search needs)
-    (λ c. search needs)
-    (λ c. search needs)
-    returns
-    (λ c. let t = told c in omega arith)
-    (λ c κs. told c .some)
-    (λ c κs. let t = told (c .before) in omega arith)
-    (λ c κs. let t = told (c .before .before) in omega arith)
-    look-up-requires
-    (λ c. search needs)
-    (λ c. search needs)
-    returns-2
-    get-s-requires
-    returns-3
-    returns-4)
+    (tie.spec (λ c κs. search needs) (λ c. search needs) (λ c. search needs) returns (λ c. let t = told c .1 in omega arith) (λ c κs. told c .1 .some)
+    (λ c κs. let t = told (c .before) .1 in omega arith)
+    (λ c κs. let t = told (c .before .before) .1 in omega arith)
+    look-up-requires (λ c. search needs) (λ c. search needs) returns-2 get-s-requires returns-3 returns-4)

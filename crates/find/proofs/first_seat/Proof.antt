@@ -1,5 +1,4 @@
 -- `find::first_seat` meets its contract: the draw is the hash, and its remainder the first seat.
--- Assumes nothing.
 use borrow.Author.Needs.{needs}
 use mathlib.Core.Path.{ap, _∙_}
 use Prim.Native.Nat.{ℕ, _%_}

@@ -1,5 +1,4 @@
 -- `find::follow` meets its contract and ends: the walk that is left is the whole walk, and at each turn K may be followed once less.
--- Assumes nothing.
 use borrow.Author.Needs.{needs}
 use native.Mathlib.Omega.{arith}
 use mathlib.Core.Path.{_≡_, sym, _∙_}

@@ -1,5 +1,4 @@
 -- `find::pick` meets its contract: the draw is the hash, and its remainder the pick.
--- Assumes nothing.
 use borrow.Author.Needs.{needs}
 use mathlib.Core.Path.{ap, _∙_}
 use Prim.Native.Nat.{ℕ, _%_}

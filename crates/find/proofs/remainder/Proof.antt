@@ -1,5 +1,4 @@
 -- `find::remainder` meets its contract: a remainder by m is below m, so it fits where m does.
--- Assumes nothing.
 use borrow.Author.Needs.{needs}
 use native.Mathlib.Omega.{arith}
 use native.Mathlib.Nat.{mod-lt}

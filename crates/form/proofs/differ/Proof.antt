@@ -1,5 +1,4 @@
 -- `form::differ` meets its contract: two readings tell the servers apart.
--- Assumes nothing.
 use native.Mathlib.Omega.{arith}
 use borrow.Author.Needs.{needs}
 use Rattle.form.proofs.Apart.{told-apart}

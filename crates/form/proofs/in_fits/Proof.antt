@@ -1,5 +1,4 @@
 -- `form::in_fits` meets its contract: each way out has met, or missed, what `InFits` names.
--- Assumes nothing.
 use native.Mathlib.Omega.{arith}
 use borrow.Author.Needs.{needs}
 use mathlib.Core.Path.{sym, _∙_}
@@ -14,8 +13,8 @@ returns-3 c =
     let marked = b .before in
     record {
       mark = decides-true _ (marked .if1 .taken) (marked .before .has-mark .ensures);
-      own = sym (b .number-at .ensures) ∙ omega arith;
-      some = λ z. c .if3 .left (id .number-at2 .ensures ∙ z);
+      own = sym (b .first-at .ensures) ∙ omega arith;
+      some = λ z. c .if3 .left (id .server-at .ensures ∙ z);
     }
 
 returns-4 : tie.Need-returns-4
@@ -24,13 +23,4 @@ returns-4 c = λ h. decides-false _ (c .if1 .left) (c .before .has-mark .ensures
 pub in-fits-spec : {M : Type 1} → statement M
 in-fits-spec =
     tie.close
-    (tie.spec
-    (λ c κs. search needs)
-    (λ c. search needs)
-    (λ c κs. search needs)
-    (λ c. search needs)
-    (λ c. search needs)
-    (λ c κs. search needs)
-    (λ c. search needs)
-    returns-3
-    returns-4)
+    (tie.spec (λ c κs. search needs) (λ c κs. search needs) (λ c. search needs) (λ c κs. search needs) (λ c. search needs) returns-3 returns-4)

@@ -1,5 +1,4 @@
 -- `form::note_outs` meets its contract. The loop's invariant: the first i removals fit and are noted.
--- Assumes nothing.
 use native.Mathlib.Omega.{arith}
 use borrow.Author.Count.{below-more}
 use borrow.Author.Needs.{needs}
@@ -14,13 +13,13 @@ use Rattle.form.proofs.note_outs.Statement.{statement}
 use Rattle.form.proofs.note_outs.Tie as tie
 
 abbrev Inv-loop : tie.InvT-loop
-Inv-loop s a m gone₀ i₀ gone i = (i ≤ m) × (length gone ≡ length gone₀) × AllOut s a m i × Noted (bareFrom s a m i .A) gone a
+Inv-loop f s a m gone₀ i₀ gone i = (i ≤ m) × (length gone ≡ length gone₀) × AllOut f s a m i × Noted (bareFrom f s a m i .A) gone a
 
 abbrev μ-loop : tie.MeasureT-loop
-μ-loop s a m gone₀ i₀ gone i = m - i
+μ-loop f s a m gone₀ i₀ gone i = m - i
 
 loop-holds : tie.Need-loop-holds Inv-loop μ-loop
-loop-holds c = let s = c .before .before in (search needs, refl, (λ i h. absurd (omega arith)), noted-none _ _ _ (s .pre .0) _ (s .pre .1))
+loop-holds c = let s = c .before .before in (search needs, refl, (λ i h. absurd (omega arith)), noted-none (s .pre .0) _ (s .pre .1))
 
 note-out-requires : tie.Need-note-out-requires Inv-loop μ-loop
 note-out-requires c κs =
@@ -32,14 +31,14 @@ loop-again : tie.Need-loop-again Inv-loop μ-loop
 loop-again c =
     let n = c .before .before .before in
     let l = n .before .before .before in
-    let t = out-yes _ _ _ _ (n .note-out .result) _ (c .if1 .taken) (n .note-out .ensures) in
+    let t = out-yes _ _ _ _ _ (n .note-out .result) _ (c .if1 .taken) (n .note-out .ensures) in
     (search needs, search needs, below-more _ _ (l .loop .inv .2) (t .0), t .1)
 
 returns : tie.Need-returns Inv-loop μ-loop
 returns c =
     let n = c .before .before .before in
     let l = n .before .before .before in
-    λ all. out-no _ _ _ _ (n .note-out .result) _ (c .if1 .left) (n .note-out .ensures) (all (l .loop .i) (omega arith))
+    λ all. out-no _ _ _ _ _ (n .note-out .result) _ (c .if1 .left) (n .note-out .ensures) (all (l .loop .i) (omega arith))
 
 returns-2 : tie.Need-returns-2 Inv-loop μ-loop
 returns-2 c =
@@ -50,15 +49,5 @@ returns-2 c =
 pub note-outs-spec : {M : Type 1} → statement M
 note-outs-spec =
     tie.close
-    (tie.spec
-    Inv-loop
-    μ-loop
-    loop-holds
-    note-out-requires
-    (λ c. search needs)
-    (λ c. search needs)
-    loop-again
-    (λ c. search needs)
-    returns
-    (λ c. search needs)
+    (tie.spec Inv-loop μ-loop loop-holds note-out-requires (λ c. search needs) (λ c. search needs) loop-again (λ c. search needs) returns (λ c. search needs)
     returns-2)

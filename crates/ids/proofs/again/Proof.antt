@@ -1,5 +1,4 @@
 -- `ids::again` meets its contract: 0 is no id, and any other is looked for in the rest.
--- Assumes nothing.
 use borrow.Author.Needs.{needs}
 use borrow.Author.Tests.{eq-eqb, ne-eqb}
 use Rattle.ids.proofs.again.Statement.{statement}

@@ -1,5 +1,4 @@
 -- `ids::occurs_in` meets its contract. The loop's invariant: the first i of each half are looked at.
--- Assumes nothing.
 use native.Mathlib.Omega.{arith}
 use borrow.Author.Needs.{needs}
 use Prim.Native.Nat.{_+_, _/_, _≤_, _-_}

@@ -1,5 +1,4 @@
 -- `ids::place_in` meets its contract. The loop's invariant: i, and the place in the rest, is the place in all.
--- Assumes nothing.
 use borrow.Author.Needs.{needs}
 use mathlib.Core.Path.{_≡_, sym, _∙_}
 use native.Mathlib.Nat.{zero-add}

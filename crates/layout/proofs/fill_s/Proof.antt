@@ -1,5 +1,4 @@
 -- `layout::fill_s` meets its contract. The loop's invariant: below i the part is filled.
--- Assumes nothing.
 use native.Mathlib.Omega.{arith}
 use borrow.Author.Needs.{needs}
 use mathlib.Core.Path.{_∙_}

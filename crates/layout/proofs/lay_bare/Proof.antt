@@ -1,5 +1,4 @@
 -- `layout::lay_bare` meets its contract: it lays out the parts of `laid-bare`.
--- Assumes nothing.
 use borrow.Author.Needs.{needs}
 use Rattle.layout.proofs.Laid.{laid-bare}
 use Rattle.layout.proofs.lay_bare.Statement.{statement}
@@ -13,10 +12,9 @@ returns c =
     let s₃ = s₄ .before .before .before .before in
     let s₂ = s₃ .before .before .before .before in
     let s₁ = s₂ .before .before .before .before in
-    let s = c .before .before .before .before .before .before .before .before .before .before .before .before .before .before .before .before .before .before .before .before .before .before .before .before .before in
-    laid-bare (s .args .t .now) (s .args .a) (s .args .w) (s .pre .0 .size) (s .pre .1)
-    (s₁ .set-head .last .0) (s₂ .open-a .last .0) (s₃ .open-own .last .0) (s₄ .open-own2 .last .0) (s₅ .open-own3 .last .0) (s₆ .open-r .last .0)
-    (s₁ .set-head .ensures) (s₂ .open-a .ensures) (s₃ .open-own .ensures) (s₄ .open-own2 .ensures) (s₅ .open-own3 .ensures) (s₆ .open-r .ensures)
+    let s = s₁ .before .before .before in
+    laid-bare (s .args .t .now) (s .args .a) (s .args .w) (s .pre .0 .size) (s .pre .1) _
+    (rw (s₅ .open-from4 .ensures, s₄ .open-from3 .ensures, s₃ .open-from2 .ensures, s₂ .open-from .ensures, s₁ .set-head .ensures) at (s₆ .open-r .ensures))
 
 pub lay-bare-spec : {M : Type 1} → statement M
 lay-bare-spec = tie.close (tie.spec (λ c κs. search needs) (λ c κs. search needs) (λ c κs. search needs) (λ c κs. search needs) (λ c κs. search needs) (λ c κs. search needs) (λ c. search needs) returns)

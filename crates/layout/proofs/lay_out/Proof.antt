@@ -1,5 +1,4 @@
 -- `layout::lay_out` meets its contract: the ids stand in S last.
--- Assumes nothing.
 use borrow.Author.Needs.{needs}
 use mathlib.Core.Path.{_∙_, ap}
 use mathlib.Core.List.{List}

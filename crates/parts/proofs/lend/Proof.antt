@@ -1,5 +1,4 @@
 -- `parts::lend` meets its contract: the part ends within the run, so it has a words.
--- Assumes nothing.
 use borrow.Author.Needs.{needs}
 use native.Mathlib.Omega.{arith}
 use native.Mathlib.Nat.{min-eq-left}

@@ -1,5 +1,4 @@
 -- `parts::word` meets its contract: what is lent is the part.
--- Assumes nothing.
 use borrow.Author.Needs.{needs}
 use Rattle.parts.proofs.word.Statement.{statement}
 use Rattle.parts.proofs.word.Tie as tie

@@ -1,5 +1,4 @@
 -- `record::build` meets its contract: a full table is laid out, the removals are made, and the servers stand in S last.
--- Assumes nothing.
 use native.Mathlib.Omega.{arith}
 use borrow.Author.Needs.{needs}
 use Rattle.rules.specs.Table.{part}
@@ -13,7 +12,7 @@ take-all-requires c κs =
     let b = c .before .before .before in
     let s = b .before .before .before .before in
     let g = s .pre .0 in
-    (g, laid-none (s .args .s .now) (s .args .a) (s .args .n) g (b .lay-bare .last .0) (part (s .args .a) 5 (s .args .t .now)) (part-long (s .args .t .now) (s .args .a) 5 (omega (arith, s .pre .1 .size))) (b .lay-bare .ensures))
+    (g, laid-none g (b .lay-bare .last .0) (part (s .args .a) 5 (s .args .t .now)) (part-long (s .args .t .now) (s .args .a) 5 (omega (arith, s .pre .1 .size))) (b .lay-bare .ensures))
 
 pub build-spec : {M : Type 1} → statement M
 build-spec = tie.close (tie.spec (λ c κs. search needs) take-all-requires (λ c κs. search needs) (λ c. search needs) (λ c. search needs))

@@ -1,10 +1,10 @@
 -- `record::load` meets its contract: each way out is one of `Loads`.
--- Assumes nothing.
 use native.Mathlib.Omega.{arith}
 use borrow.Author.Needs.{needs}
-use mathlib.Core.Path.{_≡_, sym, _∙_}
+use mathlib.Core.Path.{_≡_, refl, sym, _∙_}
 use lib.ListN.{length}
 use Rattle.rules.specs.Table.{runLength}
+use Rattle.fields.proofs.Places.{only}
 use Rattle.form.specs.declared.Recorded.the-variants.{Of}
 use Rattle.form.specs.Form.{formOf}
 use Rattle.record.proofs.Loads.{load-form, good, load-size, load-done}
@@ -27,26 +27,20 @@ sized c = c .if1 .left ∙ c .before .start .ensures
 
 build-requires : tie.Need-build-requires
 build-requires c κs =
-    let g = good _ _ _ (form (c .before .before .before .before)) in
+    let g = good _ _ _ (form (c .before .before .before .before)) (only _ _) in
     (g, record { size = sized (c .before); most = g .head .most })
 
 returns-3 : tie.Need-returns-3
 returns-3 c =
     let b = c .before .before in
     let f = b .before .before .before .before .before in
-    load-done _ _ _ (form f) _ (b .build .last .0) (sized (b .before .before)) (b .build .ensures)
+    load-done _ _ _ (form f) (only _ _) _ (b .build .last .0) (sized (b .before .before)) (b .build .ensures)
 
 pub load-spec : {M : Type 1} → statement M
 load-spec =
     tie.close
-    (tie.spec
-    (λ c κs. search needs)
-    (λ c. search needs)
-    (λ c. search needs)
-    returns
-    (λ c κs. omega (arith, good _ _ _ (form (c .before)) .head .most))
-    returns-2
-    build-requires
-    (λ c. let g = good _ _ _ (form (c .before .before .before .before .before .before .before)) in omega (arith, g .head .fit, g .head .most))
-    (λ c. search needs)
-    returns-3)
+    (tie.spec (λ c κs. search needs) (λ c. search needs) (λ c. search needs) returns
+    (λ c κs. omega (arith, good _ _ _ (form (c .before)) refl .head .most))
+    returns-2 build-requires
+    (λ c. let g = good _ _ _ (form (c .before .before .before .before .before .before .before)) refl in omega (arith, g .head .fit, g .head .most))
+    (λ c. search needs) returns-3)

@@ -1,5 +1,4 @@
 -- `record::put_ins` meets its contract. The loop's invariant: the records of the seats below b are put, and the next goes after them.
--- Assumes nothing.
 use native.Mathlib.Omega.{arith}
 use borrow.Author.Needs.{needs}
 use mathlib.Core.Path.{_≡_, refl, sym, ap, _∙_}
@@ -16,24 +15,24 @@ use Rattle.record.proofs.put_ins.Statement.{statement}
 use Rattle.record.proofs.put_ins.Tie as tie
 
 abbrev Inv-loop : tie.InvT-loop
-Inv-loop out₀ at t a next₀ b₀ out next b =
-    (b ≤ a) × (length out ≡ length out₀) × (next ≡ at + length (each (seatRecord (tableFor a t)) b)) × (out ≡ sets out₀ at (each (seatRecord (tableFor a t)) b))
+Inv-loop out₀ f at t a next₀ b₀ out next b =
+    (b ≤ a) × (length out ≡ length out₀) × (next ≡ at + length (each (seatRecord f (tableFor a t)) b)) × (out ≡ sets out₀ at (each (seatRecord f (tableFor a t)) b))
 
 abbrev μ-loop : tie.MeasureT-loop
-μ-loop out₀ at t a next₀ b₀ out next b = a - b
+μ-loop out₀ f at t a next₀ b₀ out next b = a - b
 
 put-seat-requires : tie.Need-put-seat-requires Inv-loop μ-loop
 put-seat-requires c κs =
     let l = c .before .before in
     let s = c .before .before .before .before .before in
-    (s .pre .0, omega arith, omega (arith, s .pre .1, length-within (seatRecord (tableFor (s .args .a) (s .args .t .now))) (s .args .a) (l .loop .b) (omega arith)))
+    (s .pre .0, omega arith, omega (arith, s .pre .1, length-within (seatRecord (s .args .f) (tableFor (s .args .a) (s .args .t .now))) (s .args .a) (l .loop .b) (omega arith)))
 
 loop-again : tie.Need-loop-again Inv-loop μ-loop
 loop-again c =
     let p = c .before .before in
     let l = c .before .before .before .before .before in
     let s = l .before .before .before in
-    let f = seatRecord (tableFor (s .args .a) (s .args .t .now)) in
+    let f = seatRecord (s .args .f) (tableFor (s .args .a) (s .args .t .now)) in
     let b = l .loop .b in
     let longer : length (each f (b + 1)) ≡ length (each f b) + length (f b) = ap (λ (n : ℕ). length (each f n)) (add-one b) ∙ length-append (each f b) (f b) in
     (search needs, search needs, omega (arith, p .put-seat .ensures .0), put-next (s .args .out .now) (l .loop .out) (p .put-seat .last .0) (s .args .at) (l .loop .next) f b (l .loop .inv .2) (l .loop .inv .3) (p .put-seat .ensures .1))
@@ -47,14 +46,6 @@ returns c =
 pub put-ins-spec : {M : Type 1} → statement M
 put-ins-spec =
     tie.close
-    (tie.spec
-    Inv-loop
-    μ-loop
+    (tie.spec Inv-loop μ-loop
     (λ c. (search needs, refl, sym (add-zero _), refl))
-    (λ c. search needs)
-    put-seat-requires
-    (λ c. search needs)
-    (λ c. search needs)
-    loop-again
-    (λ c. search needs)
-    returns)
+    (λ c. search needs) put-seat-requires (λ c. search needs) (λ c. search needs) loop-again (λ c. search needs) returns)

@@ -1,9 +1,9 @@
 -- `record::save` meets its contract: it refuses as the audit does, or the table is sound.
--- Assumes nothing.
 use borrow.Author.Needs.{needs}
 use mathlib.Core.Path.{sym, ap, _∙_}
 use Rattle.audit.specs.Audit.{auditedAnswer}
 use Rattle.audit.proofs.Told.{fine-sound}
+use Rattle.fields.proofs.Places.{only}
 use Rattle.record.proofs.Saves.{save-refused}
 use Rattle.record.proofs.save.Statement.{statement}
 use Rattle.record.proofs.save.Tie as tie
@@ -11,7 +11,7 @@ use Rattle.record.proofs.save.Tie as tie
 save-sound-requires : tie.Need-save-sound-requires
 save-sound-requires c κs =
     let t = c .before in
-    fine-sound _ (sym (ap auditedAnswer (t .enum-told .given .1)) ∙ t .before .before .audit-table .ensures)
+    (fine-sound _ (sym (ap auditedAnswer (t .enum-told .given .1)) ∙ t .before .before .audit-table .ensures), only _ _)
 
 returns-2 : tie.Need-returns-2
 returns-2 c =

@@ -1,5 +1,4 @@
 -- `draw` meets its promise: its steps are the rule's, and the one remainder that is taken early changes no sum modulo 2^64.
--- Assumes nothing.
 use borrow.Author.Needs.{needs}
 use mathlib.Core.Path.{refl}
 use native.Mathlib.Nat.{add-mod-mod}

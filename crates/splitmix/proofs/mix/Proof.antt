@@ -1,4 +1,4 @@
--- `mix` meets its promise: `z >> s` is z / 2^s, and `product` promises the rest. Assumes nothing.
+-- `mix` meets its promise: `z >> s` is z / 2^s, and `product` promises the rest.
 use borrow.Author.Needs.{needs}
 use Rattle.splitmix.specs.Generator.{mixed}
 use Rattle.splitmix.proofs.mix.Statement.{statement}

@@ -1,5 +1,5 @@
 -- `product` meets its promise: the halves are digits to the base 2^32, and the law of products of digits does the rest.
--- Two halves have a product below 2^64. Assumes nothing.
+-- Two halves have a product below 2^64.
 use borrow.Author.Needs.{needs}
 use native.Mathlib.Omega.{arith}
 use mathlib.Core.Path.{_∙_}
@@ -19,5 +19,4 @@ product-spec =
     (λ c. record { fits = mul-lt-pow 32 (omega arith) (omega arith) })
     (λ c κs. search needs)
     (λ c. record { fits = mul-lt-pow 32 (omega arith) (omega arith) })
-    (λ c κs. search needs)
-    returns)
+    (λ c κs. search needs) returns)

@@ -1,5 +1,4 @@
 -- `steamacorn::steamacorn_audit` meets its contract: it tells what the call answered.
--- Assumes nothing.
 use borrow.Author.Needs.{needs}
 use mathlib.Core.Path.{sym, ap, _∙_}
 use Rattle.audit.specs.Audit.{auditedAnswer}

@@ -1,5 +1,4 @@
 -- `steamacorn::steamacorn_find` meets its contract: it tells what the call answered.
--- Assumes nothing.
 use borrow.Author.Needs.{needs}
 use mathlib.Core.Path.{sym, ap, _∙_}
 use Rattle.find.specs.Find.{lookupAnswer}

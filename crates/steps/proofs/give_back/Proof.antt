@@ -1,5 +1,4 @@
 -- `steps::give_back` meets its contract: it is that one store.
--- Assumes nothing.
 use borrow.Author.Needs.{needs}
 use Rattle.steps.proofs.give_back.Statement.{statement}
 use Rattle.steps.proofs.give_back.Tie as tie

@@ -1,5 +1,4 @@
 -- `steps::store` meets its contract: it is that store.
--- Assumes nothing.
 use borrow.Author.Needs.{needs}
 use Rattle.steps.proofs.store.Statement.{statement}
 use Rattle.steps.proofs.store.Tie as tie

@@ -1,5 +1,4 @@
 -- `transcript::answer_line` meets its contract: each command has its call.
--- Assumes nothing.
 use native.Mathlib.Omega.{arith}
 use borrow.Author.Needs.{needs}
 use mathlib.Core.Path.{_≡_, refl, sym, ap, _∙_, subst}
@@ -11,8 +10,8 @@ use Rattle.lines.proofs.Standing as standing
 use Rattle.lines.proofs.Standing.{lineOf, lineCount}
 use Rattle.lines.specs.declared.Line.{Line}
 use Rattle.transcript.specs.Transcript.{respond}
-use Rattle.transcript.specs.Replies.{tableIn}
-use Rattle.transcript.proofs.Tables.{after-none, respond-as, roomy, unknown-most}
+use Rattle.transcript.specs.Replies.{byteRoom}
+use Rattle.transcript.proofs.Tables.{after-none, respond-as}
 use Rattle.transcript.proofs.answer_line.Statement.{statement}
 use Rattle.transcript.proofs.answer_line.Tie as tie
 
@@ -38,64 +37,31 @@ slice-aggregate-reopen c = sym (length-take-le _ _ (few (c .before .before .befo
 returns : tie.Need-returns
 unfolding respond
 returns c =
-    let e = told (c .before .before .before .before .before .before .before .before .before .before) _ (c .before .before .before .before .before .before .a .given .1) in
-    respond-as _ _ _ _ 24 _ _ _ e refl (c .before .before .reopen .ensures) (roomy _ _ 24 e (omega arith))
+    respond-as _ _ _ (told (c .before .before .before .before .before .before .before .before .before .before) _ (c .before .before .before .before .before .before .a .given .1)) (omega arith)
+    (c .before .before .reopen .ensures)
 
 returns-2 : tie.Need-returns-2
 unfolding respond
-returns-2 c =
-    let e = told (c .before .before .before .before .before .before .before .before .before) _ (c .before .before .before .before .before .id .given .1) in
-    respond-as _ _ _ _ 24 _ _ _ e refl (c .before .before .seat-in .ensures) (roomy _ _ 24 e (omega arith))
+returns-2 c = respond-as _ _ _ (told (c .before .before .before .before .before .before .before .before .before) _ (c .before .before .before .before .before .id .given .1)) (omega arith) (c .before .before .seat-in .ensures)
 
 returns-3 : tie.Need-returns-3
 unfolding respond
-returns-3 c =
-    let e = told (c .before .before .before .before .before .before .before .before .before) _ (c .before .before .before .before .before .id2 .given .1) in
-    respond-as _ _ _ _ 24 _ _ _ e refl (c .before .before .out-in .ensures) (roomy _ _ 24 e (omega arith))
+returns-3 c = respond-as _ _ _ (told (c .before .before .before .before .before .before .before .before .before) _ (c .before .before .before .before .before .id2 .given .1)) (omega arith) (c .before .before .out-in .ensures)
 
 returns-4 : tie.Need-returns-4
 unfolding respond
-returns-4 c =
-    let s = c .before .before .before .before .before .before .before .before .before .before .before .before in
-    let e = told (c .before .before .before .before .before .before .before) _ (c .before .before .before .key .given .1) in
-    respond-as _ _ _ _ 36 _ _ _ e refl
-    (after-none (s .args .t .now) (s .args .len) (c .find-in .result) _ 36 (s .pre .2) (c .find-in .ensures .1) (λ i. record { answer = c .find-in .ensures .0 i; after = tableIn (s .args .len) (s .args .t .now) }))
-    (roomy _ _ 36 e (omega arith))
+returns-4 c = respond-as _ _ _ (told (c .before .before .before .before .before .before .before) _ (c .before .before .before .key .given .1)) (omega arith) (c .find-in .ensures)
 
 returns-5 : tie.Need-returns-5
 unfolding respond
 returns-5 c =
     let s = c .before .before .before .before .before .before .before .before .before in
-    let e = told (c .before .before .before .before) _ (c .enum-told .given .1) in
-    respond-as _ _ _ _ 6 _ _ _ e refl (after-none (s .args .t .now) (s .args .len) _ _ 6 (s .pre .2) unknown-most refl) (omega arith)
+    respond-as _ _ _ {most = byteRoom} (told (c .before .before .before .before) _ (c .enum-told .given .1)) (omega arith) (after-none (s .args .t .now) _ (s .pre .2) (record { answer = refl; short = omega arith }) refl)
 
 pub answer-line-spec : {M : Type 1} → statement M
 answer-line-spec =
     tie.close
-    (tie.spec
-    (λ c κs. search needs)
-    (λ c. search needs)
-    slice-reshare-prefix-reopen
-    slice-aggregate-reopen
-    (λ c κs. search needs)
-    (λ c. search needs)
-    (λ c κs. search needs)
-    (λ c. search needs)
-    (λ c κs. search needs)
-    (λ c. search needs)
-    (λ c κs. search needs)
-    (λ c. search needs)
-    (λ c. search needs)
-    (λ c. search needs)
-    returns
-    (λ c. search needs)
-    (λ c. search needs)
-    returns-2
-    (λ c. search needs)
-    (λ c. search needs)
-    returns-3
-    (λ c. search needs)
-    (λ c. search needs)
-    returns-4
-    (λ c. search needs)
-    returns-5)
+    (tie.spec (λ c κs. search needs) (λ c. search needs) slice-reshare-prefix-reopen slice-aggregate-reopen (λ c κs. search needs) (λ c. search needs)
+    (λ c κs. search needs) (λ c. search needs) (λ c κs. search needs) (λ c. search needs) (λ c κs. search needs) (λ c. search needs) (λ c. search needs)
+    (λ c. search needs) returns (λ c. search needs) (λ c. search needs) returns-2 (λ c. search needs) (λ c. search needs) returns-3 (λ c. search needs)
+    (λ c. search needs) returns-4 (λ c. search needs) returns-5)

@@ -1,16 +1,16 @@
 -- `transcript::find_in` meets its contract: the lent words are the table.
--- Assumes nothing.
 use borrow.Author.Needs.{needs}
-use mathlib.Core.Path.{sym, _∙_}
+use mathlib.Core.Path.{sym}
 use lib.Seq.{length-take-le}
+use Rattle.transcript.specs.Replies.{tableIn}
+use Rattle.transcript.proofs.Tables.{after-none}
 use Rattle.transcript.proofs.find_in.Statement.{statement}
 use Rattle.transcript.proofs.find_in.Tie as tie
 
-slice-aggregate-find-server : tie.Need-slice-aggregate-find-server
-slice-aggregate-find-server c = sym (length-take-le _ _ (search needs))
-
 returns : tie.Need-returns
-returns c = (c .found .ensures .0 ∙ c .before .find-server .ensures, c .found .ensures .1)
+returns c =
+    let s = c .before .before .before .before in
+    after-none (s .args .t .now) _ (s .pre) (c .found .ensures) (λ i. record { answer = c .before .find-server .ensures i; after = tableIn (s .args .len) (s .args .t .now) })
 
 pub find-in-spec : {M : Type 1} → statement M
-find-in-spec = tie.close (tie.spec slice-aggregate-find-server (λ c κs. search needs) (λ c κs. search needs) returns)
+find-in-spec = tie.close (tie.spec (λ c. sym (length-take-le _ _ (search needs))) (λ c κs. search needs) (λ c κs. search needs) returns)

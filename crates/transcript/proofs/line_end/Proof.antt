@@ -1,5 +1,4 @@
 -- `transcript::line_end` meets its contract. The loop's invariant: no LF stands before i.
--- Assumes nothing.
 use native.Mathlib.Omega.{arith}
 use borrow.Author.Needs.{needs}
 use mathlib.Core.Logic.{_≢_}

@@ -1,23 +1,17 @@
 -- `transcript::out_in` meets its contract: the lent words are the table.
--- Assumes nothing.
 use native.Mathlib.Omega.{arith}
 use borrow.Author.Needs.{needs}
-use mathlib.Core.Path.{_≡_, sym}
-use lib.ListN.{length}
+use mathlib.Core.Path.{sym}
 use lib.Seq.{length-take-le}
 use Rattle.transcript.proofs.Tables.{after-call}
 use Rattle.transcript.proofs.out_in.Statement.{statement}
 use Rattle.transcript.proofs.out_in.Tie as tie
 
-slice-aggregate-take-out : tie.Need-slice-aggregate-take-out
-slice-aggregate-take-out c = sym (length-take-le _ _ (search needs))
-
 returns : tie.Need-returns
 returns c =
     let r = c .before .before .before in
     let s = c .before .before .before .before .before .before in
-    let kept : length (r .take-out .last .0) ≡ s .args .len = omega (arith, length-take-le (s .args .len) (s .args .t .now) (search needs)) in
-    after-call (s .args .t .now) (r .take-out .last .0) (s .args .len) _ (c .changed .result) _ 24 kept (c .changed .ensures .0) (c .changed .ensures .1) (r .take-out .ensures)
+    after-call (s .args .t .now) (r .take-out .last .0) _ (omega (arith, length-take-le (s .args .len) (s .args .t .now) (search needs))) (c .changed .ensures) (r .take-out .ensures)
 
 pub out-in-spec : {M : Type 1} → statement M
-out-in-spec = tie.close (tie.spec (λ c. search needs) slice-aggregate-take-out (λ c κs. search needs) (λ c κs. search needs) (λ c. search needs) returns)
+out-in-spec = tie.close (tie.spec (λ c. search needs) (λ c. sym (length-take-le _ _ (search needs))) (λ c κs. search needs) (λ c κs. search needs) (λ c. search needs) returns)

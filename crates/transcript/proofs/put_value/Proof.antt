@@ -1,13 +1,10 @@
 -- `transcript::put_value` meets its contract: a space, and the number behind it.
--- Assumes nothing.
 use native.Mathlib.Omega.{arith}
 use borrow.Author.Needs.{needs}
 use mathlib.Core.Path.{refl, _∙_}
-use mathlib.Core.List.{[], _∷_}
-use Prim.Native.Nat.{_+_}
 use lib.ListN.{length-set}
-use Rattle.transcript.specs.Printing.{decimal}
-use Rattle.transcript.proofs.Stored.{put-then, put-one, put-length}
+use Rattle.lines.specs.Lines.{space}
+use Rattle.decimals.proofs.Stored.{put-then, put-byte, put-length}
 use Rattle.transcript.proofs.put_value.Statement.{statement}
 use Rattle.transcript.proofs.put_value.Tie as tie
 
@@ -21,7 +18,7 @@ returns : tie.Need-returns
 returns c =
     let s = c .before .before .before .before .before in
     let p = c .before .before in
-    put-then (s .args .out .now) _ (p .put-decimal .last .0) (s .args .at) (s .args .at + 1) (p .put-decimal .result) (32 ∷ []) (decimal (s .args .v)) (put-one (s .args .out .now) (s .args .at) 32) (p .put-decimal .ensures)
+    put-then (put-byte (s .args .out .now) (s .args .at) space (omega arith)) (p .put-decimal .ensures)
 
 pub put-value-spec : {M : Type 1} → statement M
 put-value-spec = tie.close (tie.spec (λ c. search needs) (λ c. search needs) put-decimal-requires same-length returns)

@@ -1,10 +1,9 @@
 -- `transcript::reopen` meets its contract: opening does not look at what the run held, and a refused one leaves it.
--- Assumes nothing.
 use native.Mathlib.Omega.{arith}
 use borrow.Author.Needs.{needs}
 use mathlib.Core.Path.{_≡_, refl, sym, ap, _∙_}
 use Prim.Native.Nat.{ℕ}
-use lib.ListN.{length, take, replicate, length-replicate}
+use lib.ListN.{length, take, replicate, length-replicate, take-append-drop}
 use lib.Seq.{length-take-le}
 use Rattle.rules.specs.Table.{runLength}
 use Rattle.rules.specs.Answers.{outcome}
@@ -12,18 +11,14 @@ use Rattle.changes.specs.Calls.{openedAnswer}
 use Rattle.changes.specs.declared.Opened.{Opened}
 use Rattle.transcript.specs.Transcript.{reopened}
 use Rattle.transcript.specs.Replies.{tableIn}
-use Rattle.rules.specs.declared.Refusal.the-variants.{Size}
-use Rattle.transcript.specs.Printing.{okWord}
-use Rattle.transcript.proofs.Saying.{one-most, refused-most}
-use Rattle.transcript.proofs.Tables.{after-call, reopened-same, refused-keeps, refused-reopens, reopens-many, after-kept, after-none}
+use Rattle.transcript.proofs.Tables.{after-call, after-none, reopened-same, refused-keeps, refused-reopens, reopens-many}
 use Rattle.transcript.proofs.reopen.Statement.{statement}
 use Rattle.transcript.proofs.reopen.Tie as tie
 
 returns : tie.Need-returns
-returns c = let s = c .before .before .before in after-none (s .args .t .now) (s .args .len) _ _ 24 (s .pre .1) (refused-most Size) (reopens-many (tableIn (s .args .len) (s .args .t .now)) _ (s .args .a) (s .args .ids .now) (c .if1 .taken))
-
-slice-aggregate-open-table : tie.Need-slice-aggregate-open-table
-slice-aggregate-open-table c = sym (length-take-le _ _ (search needs))
+returns c =
+    let s = c .before .before .before in
+    after-none (s .args .t .now) _ (s .pre .1) (record { answer = refl; short = omega arith }) (reopens-many (tableIn (s .args .len) (s .args .t .now)) _ (s .args .a) (s .args .ids .now) (c .if1 .taken))
 
 -- the lent run is as long as the one of the definition
 lent : (c : tie.After-open-table) → let s = c .before .before .before .before .before .before in length (take (c .before .before .start .result) (s .args .t .now)) ≡ runLength (s .args .a)
@@ -39,37 +34,27 @@ same c = lent c ∙ sym (length-replicate (runLength (c .before .before .before 
 
 returns-2 : tie.Need-returns-2
 returns-2 c =
-    let k = c .before in
     let r = c .before .before .before .before .before in
     let s = c .before .before .before .before .before .before .before .before .before .before .before in
     let v = tableIn (s .args .len) (s .args .t .now) in
-    let n = r .before .before .start in
-    let kept : length (r .open-table .last .0) ≡ n .result = omega (arith, lent r, n .ensures) in
-    after-call (s .args .t .now) (r .open-table .last .0) (n .result) _ _ _ 24 kept refl (one-most okWord _ refl)
-    (ap (reopened v) (ap (λ (x : Opened). outcome (openedAnswer x) (r .open-table .last .0)) (sym (k .used .given .1)) ∙ r .open-table .ensures) ∙ reopened-same v (s .args .a) (s .args .ids .now) _ _ (same r))
+    let e = ap (λ (x : Opened). outcome (openedAnswer x) (r .open-table .last .0)) (sym (c .before .used .given .1)) ∙ r .open-table .ensures in
+    after-call (s .args .t .now) (r .open-table .last .0) _ (omega (arith, lent r, r .before .before .start .ensures)) (record { answer = refl; short = omega arith })
+    (ap (reopened v) e ∙ reopened-same v (s .args .a) (s .args .ids .now) _ _ (same r))
 
 returns-3 : tie.Need-returns-3
 returns-3 c =
-    let k = c .before in
     let r = c .before .before .before .before .before in
     let s = c .before .before .before .before .before .before .before .before .before .before .before in
     let v = tableIn (s .args .len) (s .args .t .now) in
-    let e = ap (λ (x : Opened). outcome (openedAnswer x) (r .open-table .last .0)) (sym (k .why .given .1)) ∙ r .open-table .ensures in
-    after-kept (s .args .t .now) (r .open-table .last .0) (r .before .before .start .result) (s .args .len) _ _ 24 (refused-keeps v (s .args .a) (s .args .ids .now) _ _ (k .why .given .0 .0) e) (s .pre .1) (refused-most (k .why .given .0 .0))
-    (refused-reopens v (s .args .a) (s .args .ids .now) _ _ (k .why .given .0 .0) e ∙ reopened-same v (s .args .a) (s .args .ids .now) _ _ (same r))
+    let e = ap (λ (x : Opened). outcome (openedAnswer x) (r .open-table .last .0)) (sym (c .before .why .given .1)) ∙ r .open-table .ensures in
+    let n = r .before .before .start .result in
+    rw (refused-keeps v (s .args .a) (s .args .ids .now) _ _ (c .before .why .given .0 .0) e, take-append-drop n (s .args .t .now))
+    (after-none (s .args .t .now) _ (s .pre .1) (record { answer = refl; short = omega arith })
+    (refused-reopens v (s .args .a) (s .args .ids .now) _ _ (c .before .why .given .0 .0) e ∙ reopened-same v (s .args .a) (s .args .ids .now) _ _ (same r)))
 
 pub reopen-spec : {M : Type 1} → statement M
 reopen-spec =
     tie.close
-    (tie.spec
-    returns
-    (λ c κs. search needs)
-    (λ c. search needs)
-    slice-aggregate-open-table
-    (λ c κs. search needs)
-    (λ c. search needs)
-    (λ c. search needs)
-    (λ c. search needs)
-    returns-2
-    (λ c. search needs)
-    returns-3)
+    (tie.spec returns (λ c κs. search needs) (λ c. search needs)
+    (λ c. sym (length-take-le _ _ (search needs)))
+    (λ c κs. search needs) (λ c. search needs) (λ c. search needs) (λ c. search needs) returns-2 (λ c. search needs) returns-3)

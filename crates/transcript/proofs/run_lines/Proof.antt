@@ -1,5 +1,4 @@
 -- `transcript::run_lines` meets its contract. The loop's invariant: what is written, before the answers to what is left, is the whole.
--- Assumes nothing.
 use native.Mathlib.Omega.{arith}
 use borrow.Author.Needs.{needs}
 use mathlib.Core.Path.{_≡_, refl, _∙_}
@@ -34,7 +33,7 @@ put-reply-requires c κs =
     let a = c .before .before .before .before .before in
     let e = a .before .before .before .before in
     let l = e .before .before in
-    fits _ _ _ _ _ _ _ _ _ _ _ (l .loop .inv .2) (search needs) (e .line-end .ensures) (a .answer-line .ensures)
+    fits (l .loop .inv .2) (search needs) (e .line-end .ensures) (a .answer-line .ensures)
 
 add-i : tie.Need-add-i Inv-loop μ-loop
 add-i c =
@@ -52,7 +51,7 @@ loop-again c =
     let a = p .before .before .before .before .before .before in
     let e = a .before .before .before .before in
     let l = e .before .before in
-    (search needs, search needs, so-more _ _ _ _ _ _ _ _ _ _ _ (l .loop .inv .2) (search needs) (e .line-end .ensures) (a .answer-line .ensures) _ _ (p .put-reply .ensures))
+    (search needs, search needs, so-more (l .loop .inv .2) (search needs) (e .line-end .ensures) (a .answer-line .ensures) (p .put-reply .ensures))
 
 returns : tie.Need-returns Inv-loop μ-loop
 returns c = let l = c .before in so-ends _ _ _ _ _ _ _ (l .loop .inv .2) (search needs)
@@ -60,20 +59,5 @@ returns c = let l = c .before in so-ends _ _ _ _ _ _ _ (l .loop .inv .2) (search
 pub run-lines-spec : {M : Type 1} → statement M
 run-lines-spec =
     tie.close
-    (tie.spec
-    Inv-loop
-    μ-loop
-    loop-holds
-    (λ c κs. search needs)
-    sub-answer-line
-    (λ c. search needs)
-    (λ c. search needs)
-    answer-line-requires
-    put-reply-requires
-    add-i
-    loop-less
-    loop-again
-    (λ c. search needs)
-    (λ c. search needs)
-    (λ c. search needs)
-    returns)
+    (tie.spec Inv-loop μ-loop loop-holds (λ c κs. search needs) sub-answer-line (λ c. search needs) (λ c. search needs) answer-line-requires put-reply-requires
+    add-i loop-less loop-again (λ c. search needs) (λ c. search needs) (λ c. search needs) returns)

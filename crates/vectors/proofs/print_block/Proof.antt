@@ -1,4 +1,4 @@
--- `print_block` is safe and ends: it counts to 1,024, and a remainder by 64 is a legal shift. Assumes nothing.
+-- `print_block` is safe and ends: it counts to 1,024, and a remainder by 64 is a legal shift.
 use Prim.Native.Nat.{_-_, _≤_}
 use borrow.Author.Needs.{needs}
 use Rattle.vectors.proofs.print_block.Statement.{statement}
@@ -13,17 +13,5 @@ abbrev μ-loop : tie.MeasureT-loop
 pub print-block-spec : {M : Type 1} → statement M
 print-block-spec =
     tie.close
-    (tie.spec
-    Inv-loop
-    μ-loop
-    (λ c. search needs)
-    (λ c κs. search needs)
-    (λ c κs. search needs)
-    (λ c. search needs)
-    (λ c κs. search needs)
-    (λ c κs. search needs)
-    (λ c. search needs)
-    (λ c. search needs)
-    (λ c. search needs)
-    (λ c κs. search needs)
-    (λ c. search needs))
+    (tie.spec Inv-loop μ-loop (λ c. search needs) (λ c κs. search needs) (λ c κs. search needs) (λ c. search needs) (λ c κs. search needs)
+    (λ c κs. search needs) (λ c. search needs) (λ c. search needs) (λ c. search needs) (λ c κs. search needs) (λ c. search needs))

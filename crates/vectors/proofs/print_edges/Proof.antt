@@ -1,4 +1,4 @@
--- `print_edges` is safe and ends: it counts to 144, so quotient and remainder by 12 stay below 12. Assumes nothing.
+-- `print_edges` is safe and ends: it counts to 144, so quotient and remainder by 12 stay below 12.
 use Prim.Native.Nat.{_-_, _≤_}
 use borrow.Author.Needs.{needs}
 use Rattle.vectors.proofs.print_edges.Statement.{statement}
@@ -13,17 +13,5 @@ abbrev μ-loop : tie.MeasureT-loop
 pub print-edges-spec : {M : Type 1} → statement M
 print-edges-spec =
     tie.close
-    (tie.spec
-    Inv-loop
-    μ-loop
-    (λ c. search needs)
-    (λ c. search needs)
-    (λ c. search needs)
-    (λ c. search needs)
-    (λ c. search needs)
-    (λ c κs. search needs)
-    (λ c κs. search needs)
-    (λ c. search needs)
-    (λ c. search needs)
-    (λ c. search needs)
-    (λ c. search needs))
+    (tie.spec Inv-loop μ-loop (λ c. search needs) (λ c. search needs) (λ c. search needs) (λ c. search needs) (λ c. search needs) (λ c κs. search needs)
+    (λ c κs. search needs) (λ c. search needs) (λ c. search needs) (λ c. search needs) (λ c. search needs))

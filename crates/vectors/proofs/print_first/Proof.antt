@@ -1,4 +1,4 @@
--- `print_first` is safe and ends: it counts to 6. Assumes nothing.
+-- `print_first` is safe and ends: it counts to 6.
 use Prim.Native.Nat.{_-_, _≤_}
 use borrow.Author.Needs.{needs}
 use Rattle.vectors.proofs.print_first.Statement.{statement}
@@ -13,13 +13,5 @@ abbrev μ-loop : tie.MeasureT-loop
 pub print-first-spec : {M : Type 1} → statement M
 print-first-spec =
     tie.close
-    (tie.spec
-    Inv-loop
-    μ-loop
-    (λ c. search needs)
-    (λ c κs. search needs)
-    (λ c κs. search needs)
-    (λ c. search needs)
-    (λ c. search needs)
-    (λ c. search needs)
+    (tie.spec Inv-loop μ-loop (λ c. search needs) (λ c κs. search needs) (λ c κs. search needs) (λ c. search needs) (λ c. search needs) (λ c. search needs)
     (λ c. search needs))

@@ -1,0 +1,3 @@
+-- What a reader must believe.
+pub mod Numbers
+pub mod Form
