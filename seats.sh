@@ -52,7 +52,7 @@ prove() {
         END { print counted("seats") }' crates.txt)
     echo "seats.sh: proving what is not proved yet of $crates crates, and building: some minutes the first time" >&2
     rt check seats 2>&1 </dev/null | tee "$1" | while IFS= read -r line; do
-        [[ $line =~ ^rt:\ ([a-z]+)\ proved\ \((.*)\)$ ]] || continue
+        [[ $line =~ ^rt:\ ([a-z0-9_]+)\ proved\ \((.*)\)$ ]] || continue
         proved=$((proved + 1))
         [[ ${BASH_REMATCH[2]} == unchanged* ]] || echo "seats.sh: ${BASH_REMATCH[1]} proved ($proved of $crates)" >&2
     done

@@ -1,11 +1,13 @@
-# Which names of .ci/symbols, the first file, mean something else in the other files: the promises (src), the definitions (specs), and the files of proofs that
-# are given. A line for each that is brought from another module or under another name, passed on, or bound there; one for each of the toolchain's names that a
-# promise or a definition brings and .ci/symbols does not have; and one for each import of a form that is not read here. At the end, how many names were
+# Which names of .ci/symbols, the first file, mean something else in the other files: the prelude of the proofs, which is to come second, the promises (src),
+# the definitions (specs), and the files of proofs that are given. The prelude passes names on, as they are, and has nothing else; only proofs bring names
+# from it. A line for each that is brought from another module or under another name, passed on, or bound there; one for each of the toolchain's names that
+# a promise or a definition brings and .ci/symbols does not have; and one for each import of a form that is not read here. At the end, how many names were
 # brought. `crates` has our own.
 BEGIN { split("zero suc true false [] yes no", word, " "); for (i in word) constructor[word[i]] }
 FNR == NR && /^#/ { next }
 FNR == NR { for (i = 2; i <= NF; i++) home[$i] = $1; split($1, path, "."); library[path[1]]; next }
 FNR == 1 { flush(); signature = 0; kind = FILENAME ~ /\/src\// ? "src" : FILENAME ~ /\/specs\// ? "specs" : "proofs" }
+FNR == 1 && FILENAME == "promises/proofs/Prelude.antt" { kind = "prelude" }
 { gsub(/«/, ""); gsub(/»/, "") } # the same name
 kind == "src" {
     line = $0
@@ -17,6 +19,7 @@ kind == "src" {
     next
 }
 { line = $0; sub(/(^| +)--.*/, "", line) }
+kind == "prelude" && line !~ /^(pub use .*)?$/ { tell("the prelude has more than names that it passes on: " line); next }
 FILENAME ~ /\/Lib\.antt$/ && line ~ /^(pub )?mod [A-Za-z]+$/ { next }
 line ~ /(^|[^A-Za-z-])(use|mod|open)( |$)|\{-|-\}/ { import(line); next }
 line ~ /^ *infix/ { given(line, 0); next }
@@ -64,19 +67,27 @@ function import(text,    passed, module, name, count, i) {
 
 function ours(module) {
     if (!sub(/^Rattle·/, "", module)) return 0
-    sub(/[^a-z_].*/, "", module)
+    sub(/[^a-z0-9_].*/, "", module)
     return index(" " crates " ", " " module " ")
 }
 
 function brought(module, name, passed,    old) {
     names++
     old = name
+    if (kind == "prelude") {
+        passed = 0
+        if (ours(module) || name ~ / as /) tell("the prelude passes on " name " of " module)
+        passes_on[name] = module
+    } else if (module ~ /^Rattle.promises(·proofs\.proofs|\.proofs)\.Prelude$/) {
+        if (kind != "proofs") tell(name " comes by way of the prelude, which is for proofs")
+        else if (name in passes_on) module = passes_on[name]
+    }
     if (sub(/.* as /, "", name)) sub(/ as .*/, "", old)
     if (name in home && home[name] != module) tell(name " comes from " module ", not from " home[name])
     else if (name in home && old != name) tell(name " is " old " by another name")
     else if (name in home && passed) tell(name " is passed on")
-    else if (!(name in home) && kind != "proofs" && !ours(module)) tell(name " of " module " is not in .ci/symbols")
-    else if (kind == "src" && ours(module) && module !~ /^Rattle·[a-z_]+(·specs)?\.specs\./) tell(name " comes from " module ", which is no definition")
+    else if (!(name in home) && kind ~ /^(src|specs)$/ && !ours(module)) tell(name " of " module " is not in .ci/symbols")
+    else if (kind == "src" && ours(module) && module !~ /^Rattle·[a-z0-9_]+(·specs)?\.specs\./) tell(name " comes from " module ", which is no definition")
 }
 
 # The names that a declaration, a binder, a λ, a let and the left side of a clause give. `run` has the words since the last sign or bracket, `left` those of the

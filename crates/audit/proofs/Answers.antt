@@ -1,8 +1,5 @@
 -- The audit's answer, by what is known of the run.
-use mathlib.Core.Path.{_≡_, refl, sym, subst}
-use mathlib.Core.Bool.{true, false}
-use mathlib.Core.List.{List, []}
-use Prim.Native.Nat.{ℕ, _<_, _^_}
+use Rattle.promises.proofs.Prelude.{_≡_, refl, sym, subst, true, false, List, [], ℕ, _<_, _^_}
 use Rattle.rules.specs.Table.{_!_, tableFor, legal}
 use Rattle.rules.specs.History.{Sound}
 use Rattle.rules.specs.Ids.{repeats}
@@ -50,7 +47,7 @@ module _ (w : List ℕ) (a : ℕ) (size : sizeOf w ≡ Is a) where
   known = told-seats w a size .1
 
   pub counted : (n : ℕ) → n ≡ w ! 1 → HeadPasses w a → Counted w a n
-  counted n e h = record { shape = known .shape; isN = sym e; some = rw e (h .some); most = rw e (h .most) }
+  counted n e h = record { shape = known .shape; isN = sym e; head = h }
 
   refuse : (Pass w a → ⊥) → refused Damaged ≡ auditCall w
   refuse n = audit-damaged w isLegal (λ s. n (subst (Pass w) (known .first) (sound-pass w (is-legal w isLegal) s)))

@@ -1,19 +1,13 @@
 -- The pass is exact: a run of legal shape is sound if and only if N is from 1 to a, every index passes and no id occurs twice.
-use mathlib.Core.Path.{_≡_, sym, _∙_}
-use mathlib.Core.Bool.{false}
-use mathlib.Core.List.{List}
-use mathlib.Core.Logic.{_≢_, inl, inr}
-use Prim.Native.Nat.{ℕ, _+_, _<_, _^_}
-use native.Mathlib.Omega.{arith}
-use native.Mathlib.Decide.{ℕ-discrete, decLt}
-use lib.ListN.{length, List·getD-eq-default}
+use Rattle.promises.proofs.Prelude.{_≡_, _∙_, sym, _≢_, false, List, ℕ, _<_, _+_, _^_, arith, length}
 use Rattle.rules.specs.Table.{_!_, Table, partCount, base, part, tableFor, tableOf}
 use Rattle.rules.specs.History.{Sound}
 use Rattle.rules.specs.Ids.{repeats}
 use Rattle.rules.specs.Runs.{Legal}
 use Rattle.rules.proofs.Words.{part-length, part-word}
-use Rattle.sound.specs.Canonical.{Ids}
-use Rattle.sound.proofs.Reached.{Passes, passes, reached}
+use Rattle.sound.specs.Removals.{Ids}
+use Rattle.sound.specs.Test.{Passes}
+use Rattle.sound.proofs.Reached.{passes, reached}
 use Rattle.sound.proofs.Sound.{sound-table, table-sound}
 use Rattle.rules.proofs.Lists.{not-apart}
 use Rattle.rules.proofs.Ids.{apart, not-repeats}
@@ -41,8 +35,8 @@ module _ (w : List ℕ) (legal-w : Legal w (w ! 0)) where
     good-ids =
         record {
           size = long 5 (omega arith);
-          none = λ x h l. p .all x h .seat .out (omega arith) .0;
-          some = λ x h e. (p .all x h .seat .used e .0, rw (part-word w (w ! 0) 5 x h) (word (base (w ! 0) 5 + x)));
+          none = λ x h. p .all x h .seat .none;
+          some = λ x h e. (p .all x h .seat .some e, rw (part-word w (w ! 0) 5 x h) (word (base (w ! 0) 5 + x)));
           apart = same-id;
         }
 
@@ -60,21 +54,8 @@ module _ (w : List ℕ) (legal-w : Legal w (w ! 0)) where
               lenL = long 3 (omega arith);
               lenR = long 4 (omega arith);
             };
-            order = record {
-              taken = λ i h. let r = p .all i (omega arith) .removal .taken h in (r .below, r .dated);
-              rest = λ i h. elim (decLt i (w ! 0)) [
-                | yes l ↦ p .all i l .removal .rest h
-                | no l ↦ List·getD-eq-default (T .bare .R) 0 (omega (arith, long 4 (omega arith)))
-              ];
-              each = λ x h. elim (ℕ-discrete (T .bare .A ! x) 0) [
-                | yes e ↦ inl e
-                | no ne ↦ let o = p .all x h .seat .out ne in inr (o .1, o .2, o .3)
-              ];
-            };
-            ownK = λ x h e. p .all x h .seat .used e .1;
-            lastK = λ i h. p .all i (omega arith) .removal .taken h .lastK;
-            start = λ x h. p .all x h .seat .start;
-            cut = λ i h. p .all i (omega arith) .removal .taken h .cut;
+            seat = λ x h. p .all x h .seat .words;
+            removal = λ i h. p .all i h .removal;
           };
           ids = good-ids;
         }
@@ -88,16 +69,6 @@ module _ (w : List ℕ) (legal-w : Legal w (w ! 0)) where
       let t = p .test in
       record {
         head = record { some = t .shape .some; most = t .shape .most };
-        all = λ x h. record {
-          seat = record {
-            used = λ e. (p .ids .some x h e .0, t .ownK x h e);
-            out = λ ne. elim (t .order .each x h) [ inl e ↦ absurd (ne e) | inr o ↦ (p .ids .none x h (omega arith), o .0, o .1, o .2) ];
-            start = t .start x h;
-          };
-          removal = record {
-            taken = λ l. let o = t .order .taken x l in record { below = o .0; dated = o .1; lastK = t .lastK x l; cut = t .cut x l };
-            rest = t .order .rest x;
-          };
-        };
+        all = λ x h. record { seat = record { words = t .seat x h; some = λ e. p .ids .some x h e .0; none = p .ids .none x h }; removal = t .removal x h };
         once = not-repeats (T .S) (λ i j h l ne e. omega (arith, p .ids .size, p .ids .apart i j (omega (arith, p .ids .size)) (omega (arith, p .ids .size)) ne e));
       }

@@ -1,5 +1,5 @@
 -- The promise of `audit_table` leaves one result: an answer's number says which it is.
-use mathlib.Core.Path.{refl, sym, ap}
+use Rattle.promises.proofs.Prelude.{refl, sym, ap}
 use Rattle.promises.specs.One.{One}
 use Rattle.rules.specs.Answers.{Answer, Says}
 use Rattle.rules.proofs.Numbers.{not-fine, refused-injective}

@@ -1,9 +1,5 @@
 -- What the audit's answer tells a call that asks it first: the same refusal, or a sound table.
-use mathlib.Core.Path.{_≡_, refl, sym, ap, _∙_}
-use mathlib.Core.Bool.{Bool, true, false, not}
-use mathlib.Core.List.{List, [], _++_}
-use mathlib.Core.Logic.{inl, inr}
-use Prim.Native.Nat.{ℕ}
+use Rattle.promises.proofs.Prelude.{_≡_, refl, _∙_, sym, ap, inl, inr, true, false, Bool, not, List, [], _++_, ℕ}
 use Rattle.rules.specs.History.{Sound}
 use Rattle.rules.specs.Answers.{fine, refused, Outcome, refusedAt, Occasion, firstThat, Free, none, more}
 use Rattle.rules.specs.declared.Refusal.{Refusal}

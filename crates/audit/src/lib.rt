@@ -4,9 +4,9 @@ ghost use Prim.Native.Nat.{_<_};
 ghost use Rattle.rules.specs.Table.{_!_, tableFor};
 ghost use Rattle.rules.specs.Runs.{Shape};
 ghost use Rattle.rules.specs.Answers.{Says};
-ghost use Rattle.sound.specs.Test.{Owes};
+ghost use Rattle.sound.specs.Test.{Owes, Removed, RemovalPasses};
 ghost use Rattle.promises.specs.Decides.{Decides};
-ghost use Rattle.audit.specs.Pass.{HeadPasses, Counted, LineHas, SeatPasses, Removed, RemovalPasses, IndexPasses, AllPass};
+ghost use Rattle.audit.specs.Pass.{HeadPasses, Counted, LineHas, ServedPasses, IndexPasses, AllPass};
 ghost use Rattle.audit.specs.Audit.{auditedAnswer, auditCall};
 use ids::repeats_in;
 use parts::Size;
@@ -28,8 +28,8 @@ pub enum Audited {
     Refused(Refusal),
 }
 
-// Are the two words the same?
-fn same(x: u32, y: u32) -> bool
+// Are the two words equal?
+fn equal(x: u32, y: u32) -> bool
     ensures { λ r. ⌜ Decides r (x ≡ y) ⌝ }
 {
     if x == y { true } else { false }
@@ -46,7 +46,7 @@ fn stands(t: &[u32], a: usize, n: usize, x: Seat, q: Position) -> bool
     if n <= q.0 as usize {
         return true;
     }
-    same(get_l(t, a, x).0, q.0)
+    equal(get_l(t, a, x).0, q.0)
 }
 
 // Do the words say that seat x stood at position q?
@@ -61,13 +61,13 @@ fn owes(t: &[u32], a: usize, n: usize, x: Seat, q: Position) -> bool
     if left < q.0 {
         return stands(t, a, n, x, q);
     }
-    same(get_l(t, a, x).0, q.0)
+    equal(get_l(t, a, x).0, q.0)
 }
 
 // Are the words of seat x right? Its history begins where the line of all a seats has it.
 fn seat_passes(t: &[u32], a: usize, n: usize, x: Seat, first: Position) -> bool
     requires { ⌜ (Counted (now t) a n) × (x .0 < a) × (first .0 ≡ x .0) ⌝ }
-    ensures { λ r. ⌜ Decides r (SeatPasses (tableFor a (now (t .entry))) (x .0)) ⌝ }
+    ensures { λ r. ⌜ Decides r (ServedPasses (tableFor a (now (t .entry))) (x .0)) ⌝ }
 {
     let id = get_s(t, a, x);
     let left = get_a(t, a, x) as usize;
@@ -133,7 +133,7 @@ fn removal_passes(t: &[u32], a: usize, n: usize, i: usize) -> bool
     if i < a - n {
         return removed(t, a, n, i, b);
     }
-    same(b.0, 0)
+    equal(b.0, 0)
 }
 
 // Is i right, as a seat and as an entry of R? The line of all a seats has b at b, so i counts its seats and its positions.

@@ -1,8 +1,6 @@
 -- An accepted call is an accepted opening, or an accepted change of the sound table that it finds, and leaves a sound one: where a call is done,
 -- none of its refusals applied.
-use mathlib.Core.Path.{_≡_, sym, ap, _∙_}
-use mathlib.Core.List.{List, [], _∷_, _++_}
-use Prim.Native.Nat.{ℕ}
+use Rattle.promises.proofs.Prelude.{_≡_, _∙_, sym, ap, List, [], _∷_, _++_, ℕ}
 use Rattle.rules.specs.Table.{_!_, Table, words, tableOf}
 use Rattle.rules.specs.Changes.{takeOut}
 use Rattle.rules.specs.History.{outRefusals, seatRefusals, Opens, Change, taking, seating, Accepts, changed, Reached, Sound}

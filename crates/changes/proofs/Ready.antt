@@ -1,11 +1,5 @@
 -- A sound table allows the steps of a change.
-use mathlib.Core.Path.{_≡_, sym, _∙_}
-use mathlib.Core.Bool.{true}
-use mathlib.Core.List.{List}
-use mathlib.Core.Logic.{_≢_}
-use Prim.Native.Nat.{ℕ, _<_}
-use native.Mathlib.Omega.{arith}
-use lib.ListN.{length}
+use Rattle.promises.proofs.Prelude.{_≡_, _∙_, sym, _≢_, true, List, ℕ, _<_, arith, length}
 use Rattle.rules.specs.Table.{_!_, tableOf}
 use Rattle.rules.specs.Changes.{Leaves}
 use Rattle.rules.specs.History.{Sound}
@@ -25,9 +19,11 @@ module _ (w : List ℕ) (s : Sound w) where
   pub roomy : w ! 1 ≢ w ! 0 → w ! 1 < w ! 0
   roomy ne = omega (arith, tested .shape .most)
 
+  pub place-below : (id : ℕ) → occurs id (tableOf w .S) ≡ true → placeOf id (tableOf w .S) < w ! 0
+  place-below id o = omega (arith, placed id (tableOf w .S) o, passes (sound-table s) .ids .size)
+
   pub leaving : (id : ℕ) → id ≢ 0 → occurs id (tableOf w .S) ≡ true → w ! 1 ≢ 1 → Leaves (tableOf w .bare) (placeOf id (tableOf w .S))
   leaving id ne o other =
       let p = passes (sound-table s) in
-      let at = placed id (tableOf w .S) o in
-      let below : placeOf id (tableOf w .S) < w ! 0 = omega (arith, at .0, p .ids .size) in
-      record { below = below; inUse = named-in-use p below (λ z. ne (sym (at .1) ∙ z)); two = omega (arith, p .test .shape .some) }
+      let below = place-below id o in
+      record { below = below; inUse = named-in-use p below (λ z. ne (sym (placed id (tableOf w .S) o .1) ∙ z)); two = omega (arith, p .test .shape .some) }

@@ -1,11 +1,5 @@
 -- What each call answers, by the first of its refusals, or where there is none.
-use mathlib.Core.Path.{_≡_, ap}
-use mathlib.Core.Bool.{Bool, not}
-use mathlib.Core.List.{List, [], _∷_}
-use Prim.Native.Nat.{ℕ}
-use lib.ListN.{length}
-use lib.Dec.{eqb}
-use borrow.Author.Tests.{eq-eqb}
+use Rattle.promises.proofs.Prelude.{_≡_, ap, Bool, not, List, [], _∷_, ℕ, length, eqb, eq-eqb}
 use Rattle.rules.specs.Table.{Table, words, runLength, tableOf}
 use Rattle.rules.specs.Changes.{opened, lastOut, takeOut, seatId}
 use Rattle.rules.specs.Ids.{placeOf}

@@ -1,10 +1,9 @@
 // The changes of a table: opening, seating, taking out.
 ghost use mathlib.Core.Path.{_≡_};
 ghost use mathlib.Core.Bool.{true};
-ghost use Rattle.rules.specs.Table.{tableFor};
+ghost use Rattle.rules.specs.Table.{tableOf};
 ghost use Rattle.rules.specs.Ids.{occurs, placeOf};
 ghost use Rattle.rules.specs.History.{Sound};
-ghost use Rattle.rules.specs.Runs.{Shape};
 ghost use Rattle.parts.specs.Shape.{IsSeat};
 ghost use Rattle.rules.specs.Answers.{Results};
 ghost use Rattle.changes.specs.Calls.{openedAnswer, changedAnswer, openCall, seatCall, outCall};
@@ -37,20 +36,28 @@ pub enum Changed {
     Refused(Refusal),
 }
 
-// Is the id seated?
-fn is_seated(t: &[u32], a: usize, id: u32) -> bool
-    requires { ⌜ Shape (now t) a ⌝ }
-    ensures { λ r. ⌜ r ≡ occurs id (tableFor a (now (t .entry)) .S) ⌝ }
+// The ids of a sound table.
+fn ids_of(t: &[u32]) -> &[u32]
+    requires { ⌜ Sound (now t) ⌝ }
+    ensures { λ r. ⌜ now r ≡ tableOf (now (t .entry)) .S ⌝ }
 {
-    occurs_in(servers(t, a), id)
+    servers(t, get_seats(t) as usize)
+}
+
+// Is the id seated?
+fn is_seated(t: &[u32], id: u32) -> bool
+    requires { ⌜ Sound (now t) ⌝ }
+    ensures { λ r. ⌜ r ≡ occurs id (tableOf (now (t .entry)) .S) ⌝ }
+{
+    occurs_in(ids_of(t), id)
 }
 
 // The seat of an id that is seated.
-fn seat_of(t: &[u32], a: usize, id: u32) -> Seat
-    requires { ⌜ (Shape (now t) a) × (occurs id (tableFor a (now t) .S) ≡ true) ⌝ }
-    ensures { λ r. ⌜ IsSeat (placeOf id (tableFor a (now (t .entry)) .S)) r ⌝ }
+fn seat_of(t: &[u32], id: u32) -> Seat
+    requires { ⌜ (Sound (now t)) × (occurs id (tableOf (now t) .S) ≡ true) ⌝ }
+    ensures { λ r. ⌜ IsSeat (placeOf id (tableOf (now (t .entry)) .S)) r ⌝ }
 {
-    Seat(place_in(servers(t, a), id) as u32)
+    Seat(place_in(ids_of(t), id) as u32)
 }
 
 // Seating in a sound table.
@@ -61,10 +68,10 @@ fn seat_sound(t: &mut [u32], id: u32) -> Changed
     if id == 0 {
         return Changed::Refused(Refusal::Id);
     }
-    let a = get_seats(t) as usize;
-    if is_seated(t, a, id) {
+    if is_seated(t, id) {
         return Changed::Refused(Refusal::Twice);
     }
+    let a = get_seats(t) as usize;
     if get_n(t) as usize == a {
         return Changed::Refused(Refusal::Full);
     }
@@ -89,12 +96,12 @@ fn out_sound(t: &mut [u32], id: u32) -> Changed
     if id == 0 {
         return Changed::Refused(Refusal::Id);
     }
-    let a = get_seats(t) as usize;
-    if is_seated(t, a, id) {
+    if is_seated(t, id) {
         if get_n(t) == 1 {
             return Changed::Refused(Refusal::Last);
         }
-        let b = seat_of(t, a, id);
+        let b = seat_of(t, id);
+        let a = get_seats(t) as usize;
         take_out_seat(t, a, b);
         return Changed::At(b);
     }

@@ -12,14 +12,14 @@ abbrev pub readOf : List ℕ → Number → Read
 readOf s (numbers.Value v at) = got v (drop at s)
 readOf s numbers.Bad = bad
 
-abbrev pub placeOf : Number → ℕ
-placeOf (numbers.Value v at) = at
-placeOf numbers.Bad = 0
+abbrev pub endOf : Number → ℕ
+endOf (numbers.Value v at) = at
+endOf numbers.Bad = 0
 
 -- what is read of s; the place behind it is one of s, or its end
 pub record Reads (s : List ℕ) (x : Read) (r : Number) : Type 0 where
   pub read : readOf s r ≡ x
-  pub within : placeOf r ≤ length s
+  pub within : endOf r ≤ length s
 
 -- bs stand at `at`, and the answer is the place behind them
 pub record Put (bs : List ℕ) (at : ℕ) (before : List ℕ) (o : ℕ × List ℕ) : Type 0 where

@@ -1,8 +1,5 @@
 -- The calls accept what is asked for in plain conditions: the lists that they read say just these. On a sound table an id stands in one seat.
-use mathlib.Core.Path.{sym, ap, _∙_}
-use mathlib.Core.List.{[], _∷_}
-use Prim.Native.Nat.{ℕ}
-use native.Mathlib.Omega.{arith}
+use Rattle.promises.proofs.Prelude.{_∙_, sym, ap, [], _∷_, ℕ, arith}
 use Rattle.rules.specs.Table.{words, tableOf}
 use Rattle.rules.specs.Changes.{takeOut, seatId}
 use Rattle.rules.specs.History.{taking, seating}

@@ -1,10 +1,6 @@
 -- As many seatings as removals leave every word but the ids as it was, since they empty the stack of removals; so every key is found as
 -- before.
-use mathlib.Core.Path.{_≡_, refl, sym, ap, _∙_, subst}
-use mathlib.Core.List.{List, [], _∷_}
-use Prim.Native.Nat.{ℕ, suc, _+_}
-use native.Mathlib.Omega.{arith}
-use lib.ListN.{length}
+use Rattle.promises.proofs.Prelude.{_≡_, refl, _∙_, sym, ap, subst, List, [], _∷_, ℕ, _+_, suc, arith, length}
 use Rattle.rules.specs.Table.{Bare, Table, table, tableOf}
 use Rattle.rules.specs.History.{Change, taking, Sound}
 use Rattle.sound.proofs.Reached.{passes}

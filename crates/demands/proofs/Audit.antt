@@ -1,9 +1,5 @@
 -- The audit says yes exactly for sound tables.
-use mathlib.Core.Path.{_≡_, refl, ap}
-use mathlib.Core.Bool.{Bool, true, false, not}
-use mathlib.Core.List.{List, [], _∷_}
-use Prim.Native.Nat.{ℕ}
-use native.Mathlib.Omega.{arith}
+use Rattle.promises.proofs.Prelude.{_≡_, refl, ap, true, false, Bool, not, List, [], _∷_, ℕ, arith}
 use Rattle.rules.specs.Table.{legal}
 use Rattle.rules.specs.History.{Sound}
 use Rattle.rules.specs.Answers.{Answer, fine, refused, _⇒_, firstThat}

@@ -1,15 +1,9 @@
 -- Along an accepted history the table is the stack of removals not answered so far, over what the seatings left over made of the opening;
 -- so it ends as what is left of the history makes it. A seat in use was given its id by its latest seating, or by the opening.
-use mathlib.Core.Path.{_≡_, refl, sym, ap, _∙_, subst}
-use mathlib.Core.Bool.{cond}
-use mathlib.Core.List.{List, [], _∷_, _++_, reverse, reverse-cons, append-nil, append-assoc, Sublistᴰ, Sublistᴰ·cons, Sublistᴰ·refl, Sublistᴰ·trans, Sublistᴰ·cons-cons}
-use Prim.Native.Nat.{ℕ, zero, suc, _-_}
-use native.Mathlib.Omega.{arith}
-use native.Mathlib.Decide.{ℕ-discrete}
-use lib.ListN.{length, replicate}
-use lib.Seq.{getD-set-same, getD-set-other, append-snoc}
-use lib.Dec.{eqb}
-use borrow.Author.Tests.{eq-eqb, ne-eqb}
+use Rattle.promises.proofs.Prelude.{_≡_, refl, _∙_, sym, ap, subst, cond, List, [], _∷_, _++_, append-nil, append-assoc, ℕ, _-_, suc, zero, arith, ℕ-discrete}
+use Rattle.promises.proofs.Prelude.{length, replicate, getD-set-same, getD-set-other, eqb, ne-eqb, eq-eqb}
+use mathlib.Core.List.{reverse, reverse-cons, Sublistᴰ, Sublistᴰ·cons, Sublistᴰ·refl, Sublistᴰ·trans, Sublistᴰ·cons-cons}
+use lib.Seq.{append-snoc}
 use Rattle.rules.specs.Table.{_!_, Bare, Table, tableOf}
 use Rattle.rules.specs.Changes.{opened}
 use Rattle.rules.specs.History.{Change, taking, seating, run, Accepted, done, then, Sound}
@@ -17,7 +11,8 @@ use Rattle.rules.proofs.Lists.{zeros-at}
 use Rattle.sound.proofs.Written.{written}
 use Rattle.sound.proofs.KeptOut.{still}
 use Rattle.sound.proofs.Steps.{kept, seat-leaves}
-use Rattle.sound.proofs.Reached.{Passes, leaves, room, changed-passes, opened-passes}
+use Rattle.sound.specs.Test.{Passes}
+use Rattle.sound.proofs.Reached.{leaves, room, changed-passes, opened-passes}
 use Rattle.changes.specs.Accepted.{IsChange}
 use Rattle.changes.proofs.Accepted.{out-changes, seat-changes, open-opens}
 use Rattle.demands.specs.Histories.{struck, strike, lastGiven, Answers, read, removal, answer, alone, Struck, Histories, Calls, end, out, seat, HistoriesOfCalls}

@@ -1,7 +1,5 @@
 -- Hollow versions are shut out.
-use mathlib.Core.Path.{refl, sym, ap, _∙_}
-use native.Mathlib.Omega.{arith}
-use lib.Seq.{getD-set-same}
+use Rattle.promises.proofs.Prelude.{refl, _∙_, sym, ap, arith, getD-set-same}
 use Rattle.rules.specs.Table.{_!_, Table, tableOf}
 use Rattle.rules.specs.Changes.{opened}
 use Rattle.rules.specs.Keys.{walk, lookup}

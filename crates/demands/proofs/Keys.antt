@@ -1,11 +1,6 @@
 -- A change moves only keys that are on its seat while that is in use, since the array rule finds every other key as before
 -- (crate lookups), and the other seats keep their servers.
-use mathlib.Core.Path.{_≡_, refl, sym, ap, _∙_, subst}
-use mathlib.Core.List.{List, [], _∷_}
-use mathlib.Core.Logic.{_≢_}
-use Prim.Native.Nat.{ℕ, _<_}
-use lib.Seq.{getD-set-other}
-use borrow.Author.Tests.{ne-eqb}
+use Rattle.promises.proofs.Prelude.{_≡_, refl, _∙_, sym, ap, subst, _≢_, List, [], _∷_, ℕ, _<_, getD-set-other, ne-eqb}
 use Rattle.rules.specs.Table.{_!_, Table, tableOf}
 use Rattle.rules.specs.History.{Reached, Sound}
 use Rattle.rules.specs.Keys.{firstOf, pickOf, movesOf, Found, setRule, Looked, found, arrayRule}

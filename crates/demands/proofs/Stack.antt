@@ -1,8 +1,7 @@
 -- The removals that no seating answered so far are a stack over the table before them: a removal goes on top, and a seating takes the
 -- top off again, since it undoes that removal.
-use mathlib.Core.Path.{_≡_, refl, sym, ap, _∙_, subst}
-use mathlib.Core.List.{List, [], _∷_, _++_, reverse, reverse-cons}
-use Prim.Native.Nat.{ℕ}
+use Rattle.promises.proofs.Prelude.{_≡_, refl, _∙_, sym, ap, subst, List, [], _∷_, _++_, ℕ}
+use mathlib.Core.List.{reverse, reverse-cons}
 use Rattle.rules.specs.Table.{Bare, Table}
 use Rattle.rules.specs.Changes.{out, seat, lastOut, Leaves}
 use Rattle.rules.specs.History.{Change, taking, Takes}
@@ -11,7 +10,8 @@ use Rattle.sound.specs.Kept.{Kept}
 use Rattle.rules.proofs.Undo.{last-out}
 use Rattle.sound.proofs.Made.{undone, leaves-stands}
 use Rattle.sound.proofs.Steps.{kept}
-use Rattle.sound.proofs.Reached.{Passes, leaves}
+use Rattle.sound.specs.Test.{Passes}
+use Rattle.sound.proofs.Reached.{leaves}
 use Rattle.demands.specs.Histories.{reseat, Allows, Allowed, none, more}
 
 -- from B the removals, the latest first, make T

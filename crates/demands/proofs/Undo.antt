@@ -1,15 +1,8 @@
 -- Taking a server out and seating an id gives back every word but the id, since seating writes again each word that taking out wrote, with
 -- what stood there before (`undo` of crate rules); and a sound table has what that asks for.
-use mathlib.Core.Path.{_≡_, refl, sym, ap, ap₂, _∙_, subst}
-use mathlib.Core.Bool.{true, false, not}
-use mathlib.Core.List.{List, [], _∷_}
-use mathlib.Core.Logic.{_≢_}
-use Prim.Native.Nat.{ℕ, _≤_}
-use native.Mathlib.Omega.{arith}
-use native.Mathlib.Decide.{ℕ-discrete}
-use lib.ListN.{set, length-set}
-use borrow.Author.Tests.{ne-eqb}
-use lib.Seq.{getD-set-same, getD-set-other, set-getD}
+use Rattle.promises.proofs.Prelude.{_≡_, refl, _∙_, sym, ap, subst, ap₂, _≢_, true, false, not, List, [], _∷_, ℕ, _≤_, arith, ℕ-discrete, set, length-set}
+use Rattle.promises.proofs.Prelude.{getD-set-same, getD-set-other, ne-eqb}
+use lib.Seq.{set-getD}
 use Rattle.rules.specs.Table.{_!_, Table, withIds, words, tableOf}
 use Rattle.rules.specs.Changes.{lastOut, takeOut, seatId, Leaves}
 use Rattle.rules.specs.Ids.{occurs}

@@ -5,7 +5,7 @@ use mathlib.Core.List.{List, [], _∷_}
 use mathlib.Core.Logic.{_≢_}
 use Prim.Native.Nat.{ℕ, _<_, _^_}
 use lib.ListN.{replicate}
-use Rattle.rules.specs.Table.{_!_, words, tableOf}
+use Rattle.rules.specs.Table.{_!_, words, runLength, tableOf}
 use Rattle.rules.specs.Changes.{opened, lastOut}
 use Rattle.rules.specs.History.{Sound}
 use Rattle.rules.specs.Keys.{firstOf, pickOf}
@@ -42,7 +42,7 @@ KeepsId = (w v : List ℕ) (id b : ℕ) → Sound w → tableOf v .S ! b ≡ id 
 
 -- one that looks for a double before it looks for a 0: three seats, and the list 0 5 5
 abbrev pub ZeroFirst : Type 0
-ZeroFirst = openCall (replicate 20 0) 3 (0 ∷ 5 ∷ 5 ∷ []) ≡ refusedAt (replicate 20 0) Zero
+ZeroFirst = openCall (replicate (runLength 3) 0) 3 (0 ∷ 5 ∷ 5 ∷ []) ≡ refusedAt (replicate (runLength 3) 0) Zero
 
 -- seven seats, the servers 11, 12 and 13
 abbrev pub seven : List ℕ

@@ -1,97 +1,95 @@
--- What stands where in a list of bytes; and a number of any width, written and read back.
+-- What stands where in a list of bytes; a mark, which is two bytes; and a number of any width, written and read back.
 -- A number's last byte is its remainder by 256, and the bytes before it are those of the quotient.
-use mathlib.Core.Path.{_≡_, refl, sym, ap, ap₂, _∙_, subst}
-use mathlib.Core.List.{List, [], _∷_, _++_}
-use Prim.Native.Nat.{ℕ, zero, suc, _+_, _*_, _/_, _%_, _^_, _<_, _≤_}
-use native.Mathlib.Nat.{mod-eq-of-lt, div-eq-of-lt, mul-add-mod-self-right, mul-add-div-right, div-add-mod', div-lt-iff-lt-mul, add-zero, pow-suc}
-use native.Mathlib.Omega.{arith}
-use lib.ListN.{length, take, drop, length-append, length-drop}
-use lib.Seq.{take-suc, take-take, take-add, take-append-seam, drop-append-seam, drop-drop, getD-take, getD-drop, take-length, length-take-le, ext-getD}
+use Rattle.promises.proofs.Prelude.{_≡_, refl, _∙_, ap, List, [], _∷_, _++_, ℕ, _≤_, _<_, _+_, suc, zero, _^_, _/_, _%_, add-zero, add-one, arith, length, drop}
+use Rattle.promises.proofs.Prelude.{set, length-append, take, sets, drop-drop, getD-take}
+use lib.Seq.{drop-cons, take-take, take-add, take-append-seam, drop-append-seam, getD-drop, getD-at, take-length, set-comm}
 use Rattle.rules.specs.Table.{_!_}
 use Rattle.fields.specs.Numbers.{bytes, numberAt, Stands}
 
 module _ (s : List ℕ) (at : ℕ) (x y : List ℕ) where
-  parts : take (length x + length y) (drop at s) ≡ take (length x) (drop at s) ++ take (length y) (drop (at + length x) s)
-  parts = take-add (length x) (length y) (drop at s) ∙ ap (λ (l : List ℕ). take (length x) (drop at s) ++ take (length y) l) (drop-drop (length x) at s)
-
   -- the first of two that stand together, the second, and both
   pub stands-left : Stands s at (x ++ y) → Stands s at x
-  stands-left h =
-      sym (take-take (length x) (length (x ++ y)) (drop at s) (simp length-append (omega arith)))
-      ∙ ap (take (length x)) h
-      ∙ take-append-seam x y
+  stands-left h = cc (take-take (length x) (length (x ++ y)) (drop at s) (simp length-append (omega arith)), take-append-seam x y)
 
-  pub stands-right : Stands s at (x ++ y) → Stands s (at + length x) y
-  stands-right h =
-      let e : take (length x) (drop at s) ++ take (length y) (drop (at + length x) s) ≡ x ++ y = sym parts ∙ ap (λ (n : ℕ). take n (drop at s)) (sym (length-append x y)) ∙ h in
-      let e′ : x ++ take (length y) (drop (at + length x) s) ≡ x ++ y = ap (λ (l : List ℕ). l ++ take (length y) (drop (at + length x) s)) (sym (stands-left h)) ∙ e in
-      sym (drop-append-seam x _) ∙ ap (drop (length x)) e′ ∙ drop-append-seam x y
+  pub stands-right : {next : ℕ} → at + length x ≡ next → Stands s at (x ++ y) → Stands s next y
+  stands-right {next} e h =
+      let left = stands-left h in
+      let seam = drop-append-seam x (take (length y) (drop next s)) in
+      cc (take-add (length x) (length y) (drop at s), drop-drop (length x) at s, length-append x y, drop-append-seam x y)
 
-  pub stands-both : Stands s at x → Stands s (at + length x) y → Stands s at (x ++ y)
-  stands-both h k = ap (λ (n : ℕ). take n (drop at s)) (length-append x y) ∙ parts ∙ ap₂ (λ (l m : List ℕ). l ++ m) h k
+  pub stands-both : {next : ℕ} → at + length x ≡ next → Stands s at x → Stands s next y → Stands s at (x ++ y)
+  stands-both e h k = cc (take-add (length x) (length y) (drop at s), drop-drop (length x) at s, length-append x y)
 
--- a list stands in itself, and what stands in a list and is as long is that list
-pub stands-self : (s : List ℕ) → Stands s 0 s
-stands-self s = take-length s
-
+-- what stands in a list and is as long is that list
 pub stands-whole : (s x : List ℕ) → length s ≡ length x → Stands s 0 x → x ≡ s
-stands-whole s x e h = sym h ∙ ap (λ (n : ℕ). take n s) (sym e) ∙ take-length s
+stands-whole s x e h = cc (take-length s)
 
--- byte by byte
 pub stands-byte : (s : List ℕ) (at : ℕ) (x : List ℕ) (i : ℕ) → i < length x → Stands s at x → s ! (at + i) ≡ x ! i
-stands-byte s at x i l h = sym (getD-take (length x) (drop at s) i 0 l ∙ getD-drop at s i 0) ∙ ap (λ (y : List ℕ). y ! i) h
-
-pub stands-bytes : (s : List ℕ) (at : ℕ) (x : List ℕ) → at + length x ≤ length s → ((i : ℕ) → i < length x → s ! (at + i) ≡ x ! i) → Stands s at x
-stands-bytes s at x l h =
-    let long : length (take (length x) (drop at s)) ≡ length x = length-take-le (length x) (drop at s) (simp length-drop (omega arith)) in
-    ext-getD 0 _ x long (λ i k. getD-take (length x) (drop at s) i 0 (omega arith) ∙ getD-drop at s i 0 ∙ h i (omega arith))
+stands-byte s at x i l h = cc (getD-take (length x) (drop at s) i 0 l, getD-drop at s i 0)
 
 pub length-bytes : (width x : ℕ) → length (bytes width x) ≡ width
 length-bytes zero x = refl
-length-bytes (suc width) x = length-append (bytes width (x / 256)) (x % 256 ∷ []) ∙ omega (arith, length-bytes width (x / 256))
-
--- what follows a number, and a number with what follows it
-module _ (s : List ℕ) (at width x : ℕ) (y : List ℕ) where
-  pub after-number : Stands s at (bytes width x ++ y) → Stands s (at + width) y
-  after-number h = subst (λ (n : ℕ). Stands s (at + n) y) (length-bytes width x) (stands-right s at (bytes width x) y h)
-
-  pub number-then : Stands s at (bytes width x) → Stands s (at + width) y → Stands s at (bytes width x ++ y)
-  number-then h k = stands-both s at (bytes width x) y h (subst (λ (n : ℕ). Stands s (at + n) y) (sym (length-bytes width x)) k)
+length-bytes (suc width) x = simp length-append (omega (arith, length-bytes width (x / 256)))
 
 -- a number that was written reads back
 pub number-bytes : (width x : ℕ) (s : List ℕ) (at : ℕ) → x < 256 ^ width → Stands s at (bytes width x) → numberAt s at width ≡ x
 number-bytes zero x s at h e = omega arith
 number-bytes (suc width) x s at h e =
-    let long = length-bytes width (x / 256) in
-    let front = stands-left s at (bytes width (x / 256)) (x % 256 ∷ []) e in
-    let back : take 1 (drop (at + length (bytes width (x / 256))) s) ≡ x % 256 ∷ [] = stands-right s at (bytes width (x / 256)) (x % 256 ∷ []) e in
-    let last : s ! (at + width) ≡ x % 256 =
-    sym (getD-take 1 (drop (at + width) s) 0 0 (omega arith) ∙ getD-drop (at + width) s 0 0 ∙ ap (λ (n : ℕ). s ! n) (add-zero (at + width)))
-    ∙ ap (λ (n : ℕ). take 1 (drop (at + n) s) ! 0) (sym long)
-    ∙ ap (λ (l : List ℕ). l ! 0) back in
-    let small : x / 256 < 256 ^ width = div-lt-iff-lt-mul {k = 256} {x = x} (omega arith) .1 (rw pow-suc at h) in
-    ap₂ (λ (p q : ℕ). p * 256 + q) (number-bytes width (x / 256) s at small front) last
-    ∙ div-add-mod' x 256
+    let front = bytes width (x / 256) in
+    let last = stands-byte s at _ width (omega (arith, length-bytes (suc width) x)) e ∙ getD-at front (x % 256) [] 0 width (length-bytes width (x / 256)) in
+    omega (arith, number-bytes width (x / 256) s at (omega arith) (stands-left s at front (x % 256 ∷ []) e))
 
 -- and bytes that were read are those of their number
 module _ (s : List ℕ) (byte : (i : ℕ) → s ! i < 256) where
-  pub bytes-number : (width at : ℕ) → at + width ≤ length s → Stands s at (bytes width (numberAt s at width))
-  bytes-number width at h = ap (λ (n : ℕ). take n (drop at s)) (length-bytes width (numberAt s at width)) ∙ sym (go width at h)
-    where
-      go : (width at : ℕ) → at + width ≤ length s → bytes width (numberAt s at width) ≡ take width (drop at s)
-      go zero at h = refl
-      go (suc width) at h =
-          let v = numberAt s at width in
-          let b = s ! (at + width) in
-          let q : (v * 256 + b) / 256 ≡ v = mul-add-div-right (omega arith) v b ∙ ap (λ (n : ℕ). v + n) (div-eq-of-lt (byte (at + width))) ∙ add-zero v in
-          let r : (v * 256 + b) % 256 ≡ b = mul-add-mod-self-right v 256 b ∙ mod-eq-of-lt (byte (at + width)) in
-          ap₂ (λ (p d : ℕ). bytes width p ++ (d ∷ [])) q r
-          ∙ ap (λ (l : List ℕ). l ++ (b ∷ [])) (go width at (omega arith))
-          ∙ sym (take-suc (drop at s) width 0 (simp length-drop (omega arith)) ∙ ap (λ (d : ℕ). take width (drop at s) ++ (d ∷ [])) (getD-drop at s width 0))
-
   pub stands-number : (width at x : ℕ) → at + width ≤ length s → numberAt s at width ≡ x → Stands s at (bytes width x)
-  stands-number width at x h e = subst (λ (y : ℕ). Stands s at (bytes width y)) e (bytes-number width at h)
+  stands-number zero at x h e = refl
+  stands-number (suc width) at x h e =
+      let low = byte (at + width) in
+      let last : s ! (at + width) ≡ x % 256 = omega arith in
+      stands-both s at (bytes width (x / 256)) _ (ap (λ (n : ℕ). at + n) (length-bytes width (x / 256)))
+      (stands-number width at (x / 256) (omega arith) (omega arith))
+      (rw (drop-cons s (at + width) 0 (omega arith), last))
 
   pub number-below : (width at : ℕ) → numberAt s at width < 256 ^ width
   number-below zero at = omega arith
-  number-below (suc width) at = rw pow-suc (omega (arith, number-below width at, byte (at + width)))
+  number-below (suc width) at = omega (arith, number-below width at, byte (at + width))
+
+-- two numbers after a mark, as in a head and in the record of a seat in use
+module _ (s mark : List ℕ) (at : ℕ) {at₁ at₂ : ℕ} (width v x y : ℕ) (e₁ : at + length mark ≡ at₁) (e₂ : at₁ + width ≡ at₂) where
+  past : at₁ + length (bytes width x) ≡ at₂
+  past = omega (arith, length-bytes width x)
+
+  pub two-read : x < 256 ^ width → y < 256 ^ v → Stands s at (mark ++ (bytes width x ++ bytes v y))
+      → Stands s at mark × (numberAt s at₁ width ≡ x) × (numberAt s at₂ v ≡ y)
+  two-read hx hy h =
+      let both = stands-right s at mark _ e₁ h in (
+        stands-left s at mark _ h,
+        number-bytes width x s at₁ hx (stands-left s at₁ (bytes width x) _ both),
+        number-bytes v y s at₂ hy (stands-right s at₁ (bytes width x) _ past both),
+      )
+
+  pub two-written : ((i : ℕ) → s ! i < 256) → at₂ + v ≤ length s → Stands s at mark → numberAt s at₁ width ≡ x → numberAt s at₂ v ≡ y
+      → Stands s at (mark ++ (bytes width x ++ bytes v y))
+  two-written byte h m ex ey =
+      stands-both s at mark _ e₁ m
+      (stands-both s at₁ (bytes width x) _ past (stands-number s byte width at₁ x (omega arith) ex) (stands-number s byte v at₂ y h ey))
+
+-- the last of a run may be stored first
+pub sets-last : (l xs : List ℕ) (i d : ℕ) → sets (set l (i + length xs) d) i xs ≡ sets l i (xs ++ (d ∷ []))
+sets-last l [] i d = rw add-zero
+sets-last l (x ∷ xs) i d =
+    let next : i + suc (length xs) ≡ suc i + length xs = omega arith in
+    rw (set-comm l (i + suc (length xs)) i d x (omega arith), next) (sets-last (set l i x) xs (suc i) d)
+
+two : (m : List ℕ) → length m ≡ 2 → m ≡ m ! 0 ∷ m ! 1 ∷ []
+two [] e = absurd (omega arith)
+two (x ∷ []) e = absurd (omega arith)
+two (x ∷ y ∷ []) e = refl
+two (x ∷ y ∷ z ∷ m) e = absurd (omega arith)
+
+pub mark-stored : (l m : List ℕ) (at : ℕ) → length m ≡ 2 → set (set l at (m ! 0)) (at + 1) (m ! 1) ≡ sets l at m
+mark-stored l m at e = rw (two m e, add-one)
+
+pub mark-stands : (s m : List ℕ) (at : ℕ) → length m ≡ 2 → at + 2 ≤ length s → s ! at ≡ m ! 0 → s ! (at + 1) ≡ m ! 1 → Stands s at m
+mark-stands s m at e h first second =
+    rw (two m e, drop-cons s at 0 (omega arith), drop-cons s (suc at) 0 (omega arith), ← add-one at, first, second)

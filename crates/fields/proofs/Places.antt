@@ -1,10 +1,6 @@
 -- The laws of a form's places: each record ends where the next begins, and a place is the lengths before it.
-use mathlib.Core.Path.{_≡_, refl}
-use Prim.Native.Nat.{ℕ, zero, suc, _+_, _*_, _^_, _<_, _≤_}
-use native.Mathlib.Omega.{arith}
-use native.Mathlib.Nat.{mul-suc}
-use native.Mathlib.Decide.{ℕ-discrete}
-use lib.ListN.{length}
+use Rattle.promises.proofs.Prelude.{_≡_, refl, ℕ, _≤_, _<_, _+_, suc, zero, _^_, _*_, arith, length}
+use native.Mathlib.Nat.{mul-le-mul-left, mul-le-mul-right}
 use Rattle.rules.specs.Table.{mostSeats}
 use Rattle.fields.specs.declared.Form.{Form}
 use Rattle.fields.specs.declared.Form.the-variants.{Short}
@@ -34,43 +30,30 @@ seats-fit a x most h = go (formFor a)
 module _ (f : Form) where
   pub out-is : (i : ℕ) → outAt f i ≡ headLength f + outLength f * i
   out-is zero = omega arith
-  out-is (suc i) = rw mul-suc (omega (arith, out-is i))
+  out-is (suc i) = omega (arith, out-is i)
 
   pub in-is : (m j : ℕ) → inAt f m j ≡ outAt f m + inLength f * j
   in-is m zero = omega arith
-  in-is m (suc j) = rw mul-suc (omega (arith, in-is m j))
+  in-is m (suc j) = omega (arith, in-is m j)
 
   -- a record ends where a later one begins, or before it
   pub out-within : (i m : ℕ) → i < m → outAt f i + outLength f ≤ outAt f m
-  out-within i zero h = absurd (omega arith)
-  out-within i (suc m) h = elim (ℕ-discrete i m) [
-    | yes e ↦ rw e (omega arith)
-    | no ne ↦ omega (arith, out-within i m (omega arith))
-  ]
+  out-within i m h = omega (arith, out-is i, out-is m, mul-le-mul-left (outLength f) h)
 
   pub in-within : (m i j : ℕ) → i < j → inAt f m i + inLength f ≤ inAt f m j
-  in-within m i zero h = absurd (omega arith)
-  in-within m i (suc j) h = elim (ℕ-discrete i j) [
-    | yes e ↦ rw e (omega arith)
-    | no ne ↦ omega (arith, in-within m i j (omega arith))
-  ]
+  in-within m i j h = omega (arith, in-is m i, in-is m j, mul-le-mul-left (inLength f) h)
 
   pub out-first : (i : ℕ) → headLength f ≤ outAt f i
-  out-first zero = omega arith
-  out-first (suc i) = omega (arith, out-first i)
+  out-first i = omega (arith, out-is i)
 
   pub in-first : (m j : ℕ) → outAt f m ≤ inAt f m j
-  in-first m zero = omega arith
-  in-first m (suc j) = omega (arith, in-first m j)
+  in-first m j = omega (arith, in-is m j)
 
   pub in-least : (m j : ℕ) → j ≤ inAt f m j
-  in-least m zero = omega arith
-  in-least m (suc j) = omega (arith, in-least m j)
+  in-least m j = omega (arith, in-is m j)
 
   pub out-small : (i : ℕ) → outAt f i ≤ 10 + 6 * i
-  out-small zero = omega (arith, field-most f)
-  out-small (suc i) = omega (arith, field-most f, out-small i)
+  out-small i = omega (arith, out-is i, field-most f, mul-le-mul-right i (field-most f))
 
   pub in-small : (m j : ℕ) → inAt f m j ≤ 10 + 6 * m + 10 * j
-  in-small m zero = omega (arith, out-small m)
-  in-small m (suc j) = omega (arith, field-most f, in-small m j)
+  in-small m j = omega (arith, in-is m j, out-small m, mul-le-mul-right j (field-most f))

@@ -25,14 +25,21 @@ outMark = 0x4F ∷ 0x55 ∷ []
 abbrev pub inMark : List ℕ
 inMark = 0x49 ∷ 0x4E ∷ []
 
+-- the bytes of a mark, and of a server
+abbrev pub markLength : ℕ
+markLength = 2
+
+abbrev pub serverLength : ℕ
+serverLength = 4
+
 abbrev pub headLength : Form → ℕ
-headLength f = 2 + field f + field f
+headLength f = markLength + field f + field f
 
 abbrev pub outLength : Form → ℕ
-outLength f = 2 + field f
+outLength f = markLength + field f
 
 abbrev pub inLength : Form → ℕ
-inLength f = 2 + field f + 4
+inLength f = markLength + field f + serverLength
 
 -- where the i-th removal's record stands, and after m removals the record of the j-th seat in use
 abbrev pub outAt : Form → ℕ → ℕ

@@ -5,7 +5,7 @@ ghost use lib.ListN.{length};
 ghost use lib.Seq.{sets};
 ghost use Rattle.promises.specs.Decides.{Decides};
 ghost use Rattle.fields.specs.Numbers.{bytes, numberAt, Stands};
-ghost use Rattle.fields.specs.Form.{headMark, field, outLength, inLength, outAt, inAt};
+ghost use Rattle.fields.specs.Form.{headMark, field, markLength, serverLength, outLength, inLength, outAt, inAt};
 
 // The forms of a record.
 pub enum Form {
@@ -63,7 +63,7 @@ pub fn in_at(f: Form, m: usize, j: usize) -> usize
 }
 
 pub fn put_mark(out: &mut [u8], at: usize, mark: &[u8; 2])
-    requires { ⌜ (at + 2 ≤ length (now out)) × (length (now mark) ≡ 2) ⌝ }
+    requires { ⌜ (at + markLength ≤ length (now out)) × (length (now mark) ≡ markLength) ⌝ }
     ensures { λ _. ⌜ now (out .exit) ≡ sets (now (out .entry)) at (now (mark .entry)) ⌝ }
 {
     out[at] = mark[0];
@@ -72,7 +72,7 @@ pub fn put_mark(out: &mut [u8], at: usize, mark: &[u8; 2])
 
 // Both bytes are compared.
 pub fn has_mark(s: &[u8], at: usize, mark: &[u8; 2]) -> bool
-    requires { ⌜ (at + 2 ≤ length (now s)) × (length (now mark) ≡ 2) ⌝ }
+    requires { ⌜ (at + markLength ≤ length (now s)) × (length (now mark) ≡ markLength) ⌝ }
     ensures { λ r. ⌜ Decides r (Stands (now (s .entry)) at (now (mark .entry))) ⌝ }
 {
     if s[at] != mark[0] {
@@ -112,28 +112,28 @@ pub fn number_at(s: &[u8], at: usize, width: usize) -> u32
 // The first field of the record at `at`: a in the head, else the seat. And the server of a seat in use.
 pub fn put_first(out: &mut [u8], f: Form, at: usize, x: u32)
     requires { ⌜ at + outLength f ≤ length (now out) ⌝ }
-    ensures { λ _. ⌜ now (out .exit) ≡ sets (now (out .entry)) (at + 2) (bytes (field f) x) ⌝ }
+    ensures { λ _. ⌜ now (out .exit) ≡ sets (now (out .entry)) (at + markLength) (bytes (field f) x) ⌝ }
 {
     put_number(out, at + MARK, width(f), x);
 }
 
 pub fn put_id(out: &mut [u8], f: Form, at: usize, id: u32)
     requires { ⌜ at + inLength f ≤ length (now out) ⌝ }
-    ensures { λ _. ⌜ now (out .exit) ≡ sets (now (out .entry)) (at + outLength f) (bytes 4 id) ⌝ }
+    ensures { λ _. ⌜ now (out .exit) ≡ sets (now (out .entry)) (at + outLength f) (bytes serverLength id) ⌝ }
 {
     put_number(out, at + second(f), SERVER, id);
 }
 
 pub fn first_at(f: Form, s: &[u8], at: usize) -> u32
     requires { ⌜ at + outLength f ≤ length (now s) ⌝ }
-    ensures { λ r. ⌜ r ≡ numberAt (now (s .entry)) (at + 2) (field f) ⌝ }
+    ensures { λ r. ⌜ r ≡ numberAt (now (s .entry)) (at + markLength) (field f) ⌝ }
 {
     number_at(s, at + MARK, width(f))
 }
 
 pub fn server_at(f: Form, s: &[u8], at: usize) -> u32
     requires { ⌜ at + inLength f ≤ length (now s) ⌝ }
-    ensures { λ r. ⌜ r ≡ numberAt (now (s .entry)) (at + outLength f) 4 ⌝ }
+    ensures { λ r. ⌜ r ≡ numberAt (now (s .entry)) (at + outLength f) serverLength ⌝ }
 {
     number_at(s, at + second(f), SERVER)
 }

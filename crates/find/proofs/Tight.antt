@@ -1,5 +1,5 @@
 -- The promise of `find_server` leaves one result: an answer's number and values say which it is.
-use mathlib.Core.Path.{_≡_, sym, ap}
+use Rattle.promises.proofs.Prelude.{_≡_, sym, ap}
 use Rattle.promises.specs.One.{One}
 use Rattle.rules.specs.Answers.{Answer, Says}
 use Rattle.rules.proofs.Numbers.{not-fine, refused-injective}
@@ -11,9 +11,8 @@ apart : Apart lookupAnswer
 apart (On b x d) (On c y e) h =
     let v = ap (λ (a : Answer). a .values) h in
     let seat : b .0 ≡ c .0 = cc in
-    let server : x ≡ y = cc in
-    let draws : d ≡ e = cc in
-    λ i. On (record { 0 = seat i }) (server i) (draws i)
+    let same : b ≡ c = λ i. record { 0 = seat i } in
+    cc
 apart (On b x d) (Refused q) h = not-fine q _ (sym h)
 apart (Refused p) (On c y e) h = not-fine p _ h
 apart (Refused p) (Refused q) h = ap Refused (refused-injective p q h)

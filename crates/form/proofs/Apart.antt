@@ -1,12 +1,5 @@
 -- Servers told apart: two times four bytes are the same number whichever way they are read, or different numbers either way.
-use mathlib.Core.Path.{_≡_, ap}
-use mathlib.Core.Bool.{not}
-use mathlib.Core.List.{List}
-use mathlib.Core.Logic.{_≢_}
-use Prim.Native.Nat.{ℕ, _+_, _<_}
-use native.Mathlib.Omega.{arith}
-use native.Mathlib.Nat.{add-zero}
-use lib.Dec.{eqb}
+use Rattle.promises.proofs.Prelude.{_≡_, ap, _≢_, not, List, ℕ, _<_, _+_, add-zero, arith, eqb}
 use Rattle.rules.specs.Table.{_!_}
 use Rattle.promises.specs.Decides.{Decides}
 use Rattle.promises.proofs.Decided.{decides-iff, decides-other}

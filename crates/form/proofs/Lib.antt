@@ -1,3 +1,2 @@
-pub mod Notes
 pub mod Told
 pub mod Apart

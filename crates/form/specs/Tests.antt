@@ -2,9 +2,9 @@
 use mathlib.Core.Path.{_≡_}
 use mathlib.Core.Bool.{Bool, true, false}
 use mathlib.Core.List.{List}
+use mathlib.Core.Logic.{_↔_}
 use Prim.Native.Nat.{ℕ, _+_, _*_, _<_, _≤_}
 use lib.ListN.{length}
-use lib.Dec.{eqb}
 use Rattle.rules.specs.Table.{_!_, mostSeats}
 use Rattle.fields.specs.declared.Form.{Form}
 use Rattle.fields.specs.Form.{outAt}
@@ -24,7 +24,7 @@ FormTold f s Bad = (a n : ℕ) → Good f s a n → ⊥
 -- a flag for each of the a seats: 0 where A is 0
 pub record Noted (A flags : List ℕ) (a : ℕ) : Type 0 where
   pub size : length flags ≡ mostSeats
-  pub same : (x : ℕ) → x < a → eqb (flags ! x) 0 ≡ eqb (A ! x) 0
+  pub same : (x : ℕ) → x < a → (flags ! x ≡ 0) ↔ (A ! x ≡ 0)
 
 -- m removals of a seats, whose records end within the bytes
 pub record Leaving (f : Form) (s : List ℕ) (a m : ℕ) : Type 0 where

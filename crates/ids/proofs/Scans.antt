@@ -1,18 +1,9 @@
 -- Scans of a list of ids, an element at a time: what is found so far, and what the rest still holds.
-use mathlib.Core.Path.{_≡_, refl, sym}
-use mathlib.Core.Bool.{Bool, true, false, not, _&&_, _||_, or-assoc, or-false}
-use mathlib.Core.List.{List}
-use mathlib.Core.Logic.{_≢_}
-use Prim.Native.Nat.{ℕ, _+_, _-_, _<_, _≤_}
-use native.Mathlib.Nat.{add-zero}
-use native.Mathlib.Numerals.{add-one}
-use native.Mathlib.Omega.{arith}
-use native.Mathlib.Decide.{decLt}
-use lib.ListN.{length, drop, drop-of-length-le}
+use Rattle.promises.proofs.Prelude.{_≡_, refl, sym, _≢_, true, false, Bool, not, _&&_, List, ℕ, _-_, _≤_, _<_, _+_, add-zero, add-one, arith, decLt, length}
+use Rattle.promises.proofs.Prelude.{drop, drop-of-length-le, eqb, ne-eqb, eq-eqb, eqb-true, below-more}
+use mathlib.Core.Bool.{_||_, or-assoc, or-false}
 use lib.Seq.{drop-cons}
-use lib.Dec.{eqb}
-use borrow.Author.Count.{below-more}
-use borrow.Author.Tests.{eq-eqb, ne-eqb, eqb-true, eqb-false}
+use borrow.Author.Tests.{eqb-false}
 use Rattle.rules.specs.Table.{_!_}
 use Rattle.rules.specs.Ids.{occurs, repeats, placeOf}
 use Rattle.rules.proofs.Ids.{occurs-at, not-occurs}

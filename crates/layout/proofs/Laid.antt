@@ -1,17 +1,14 @@
 -- The parts of an opening, laid out one after the other, are its words.
-use mathlib.Core.Path.{_≡_, refl, ap, _∙_}
-use mathlib.Core.List.{List, _++_}
-use Prim.Native.Nat.{ℕ, _+_, _-_, _≤_}
-use native.Mathlib.Omega.{arith}
-use lib.ListN.{length, take, drop, set, length-take, length-drop, length-set}
-use lib.Seq.{drop-drop, getD-set-same, drop-set-lt}
+use Rattle.promises.proofs.Prelude.{_≡_, refl, _∙_, ap, List, _++_, ℕ, _-_, _≤_, _+_, arith, length, drop, set, length-set, take, length-drop, length-take}
+use Rattle.promises.proofs.Prelude.{getD-set-same, drop-drop}
+use lib.Seq.{drop-set-lt}
 use Rattle.rules.specs.Table.{Table, table, parts, words, base, runLength, part}
 use Rattle.rules.specs.Changes.{count, opened, openA, openR, openS, openBare}
 use Rattle.rules.proofs.Lists.{length-count}
-use Rattle.rules.proofs.Parts.{All, none, more}
+use Rattle.rules.specs.Runs.{All, none, more}
 use Rattle.rules.proofs.Words.{holds-words, holds-table, holds-head, holds-with}
 use Rattle.layout.specs.Layout.{withPart}
-use Rattle.layout.proofs.Filling.{length-openA, length-openR, length-openS}
+use Rattle.rules.proofs.Openings.{length-openA, length-openR, length-openS}
 
 -- part k is lent from lo on, and filled by its length
 pub part-filled : (full : ℕ → List ℕ) (w new : List ℕ) (a k lo : ℕ) → lo ≡ base a k → base a k + a ≤ length w → new ≡ full (length (take (lo + a - lo) (drop lo w)))
@@ -43,8 +40,8 @@ module _ (w : List ℕ) (a n : ℕ) (size : length w ≡ runLength a) (fit : n �
       let h₃ = holds-with h₂ 1 (count a 0) (omega arith) (length-count a 0) refl in
       let h₄ = holds-with h₃ 2 (count a 0) (omega arith) (length-count a 0) refl in
       let h₅ = holds-with h₄ 3 (count a 0) (omega arith) (length-count a 0) refl in
-      let h₆ = holds-with h₅ 4 (openR a n) (omega arith) (length-openR a n fit) (rw (openA-none a) at e) in
-      h₆ .is ∙ ap (λ (l : List ℕ). words (bareWith a n (take a l))) (drop-set-lt (base a 5) w 0 a (omega arith))
+      let h₆ = holds-with h₅ 4 (openR a n) (omega arith) (length-openR a n fit) refl in
+      rw (openA-none a) at e ∙ h₆ .is ∙ ap (λ (l : List ℕ). words (bareWith a n (take a l))) (drop-set-lt (base a 5) w 0 a (omega arith))
 
 pub laid-out : (a : ℕ) (ids S w′ : List ℕ) → length ids ≤ a → length S ≡ a → w′ ≡ withPart a 5 (openS a ids) (words (bareWith a (length ids) S)) → w′ ≡ words (opened a ids)
 unfolding opened

@@ -1,32 +1,32 @@
 // Lays out the words of an opening in a lent run, part by part.
 ghost use mathlib.Core.Path.{_≡_};
-ghost use Prim.Native.Nat.{_+_, _<_, _≤_, _^_};
+ghost use Prim.Native.Nat.{ℕ, _+_, _<_, _≤_, _^_};
 ghost use lib.ListN.{length, set};
-ghost use Rattle.rules.specs.Table.{base, table, words, tableFor};
+ghost use Rattle.rules.specs.Table.{_!_, base, table, words, tableFor};
 ghost use Rattle.rules.specs.Changes.{opened, openA, openR, openS, openBare};
 ghost use Rattle.rules.specs.Runs.{Shape};
-ghost use Rattle.layout.specs.Layout.{firstA, firstR, firstS, withPart};
+ghost use Rattle.layout.specs.Layout.{withPart};
 use parts::start;
 use steps::set_n;
 use steps::set_seats;
 
-// What opening with w ids writes for seat i in A, for entry i of R of a seats, and for seat i in S.
+// What opening with w ids writes for seat i in A, for entry i of R of a seats, and for seat i in S. In A and S it is the same for any number of seats.
 fn first_a(w: usize, i: usize) -> u32
     requires { ⌜ i < 2 ^ 32 ⌝ }
-    ensures { λ r. ⌜ r ≡ firstA w i ⌝ }
+    ensures { λ r. ⌜ ((a : ℕ) → w ≤ a → i < a → r ≡ openA a w ! i) ⌝ }
 {
     if i < w { 0 } else { i as u32 }
 }
 
 fn first_r(a: usize, w: usize, i: usize) -> u32
     requires { ⌜ (i < a) × (w ≤ a) × (a ≤ 2 ^ 32) ⌝ }
-    ensures { λ r. ⌜ r ≡ firstR a w i ⌝ }
+    ensures { λ r. ⌜ r ≡ openR a w ! i ⌝ }
 {
     if i < a - w { (a - 1 - i) as u32 } else { 0 }
 }
 
 fn first_s(ids: &[u32], i: usize) -> u32
-    ensures { λ r. ⌜ r ≡ firstS (now (ids .entry)) i ⌝ }
+    ensures { λ r. ⌜ ((a : ℕ) → r ≡ openS a (now (ids .entry)) ! i) ⌝ }
 {
     if i < ids.len() { ids[i] } else { 0 }
 }

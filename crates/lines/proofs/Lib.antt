@@ -1,6 +1,5 @@
-pub mod Numbers
+pub mod Words
 pub mod Listing
-pub mod Starts
 pub mod KnownLines
 pub mod Tight
 pub mod Standing

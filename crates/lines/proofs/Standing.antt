@@ -1,17 +1,12 @@
 -- How a caller reads what `command` leaves: the ids of an opening stand first in the lent list.
-use mathlib.Core.Path.{_≡_, refl, ap}
-use mathlib.Core.Bool.{Bool, true, false}
-use mathlib.Core.List.{List}
-use Prim.Native.Nat.{ℕ, _≤_}
-use native.Mathlib.Omega.{arith}
-use lib.ListN.{length, take, drop, length-append}
+use Rattle.promises.proofs.Prelude.{_≡_, refl, ap, true, false, Bool, List, ℕ, _≤_, arith, length, drop, length-append, take}
 use lib.Seq.{take-append-seam}
 use Rattle.decimals.specs.Decimal.{Read, got, bad}
 use Rattle.lines.specs.Lines.{next, last, given, mostId, mostKey, idsIn, idsBehind, opens, withA, openWord, seatWord, outWord, findWord, Command, openLine, seatLine, outLine, findLine, unknown, commandOf}
 use Rattle.lines.specs.declared.Line.{Line}
 use Rattle.lines.specs.declared.Line.the-variants as line
 use Rattle.lines.specs.Readings.{idsRead, standFirst, lineFrom, IsLine}
-use Rattle.lines.proofs.Starts.{starts-cases}
+use Rattle.lines.proofs.Words.{starts-cases}
 
 -- a command, its ids in a lent list
 abbrev pub lineOf : List ℕ → Line → Command
@@ -39,23 +34,21 @@ given-told after f h (got v bs) = h v
 
 module _ (before : List ℕ) where
   opens-told : (a : ℕ) (ids : List ℕ) (whole : Bool) → Told (standFirst ids before) (opens a (record { ids = ids; whole = whole }))
-  opens-told a ids true = (ap (openLine a) (take-append-seam ids _), omega (arith, length-append ids (drop (length ids) before)))
+  opens-told a ids true = (ap (openLine a) (take-append-seam ids _), simp length-append (omega arith))
   opens-told a ids false = (refl, omega arith)
 
   withA-told : (r : Read) → Told (standFirst (idsBehind r .ids) before) (withA r)
   withA-told bad = (refl, omega arith)
   withA-told (got a bs) = let i = idsIn bs in opens-told a (i .ids) (i .whole)
 
-  line-told : (s : List ℕ) → Told (standFirst (idsRead s) before) (commandOf s)
-  unfolding commandOf idsRead
-  line-told s =
-      let after = standFirst (idsRead s) before in
-      let P = Told after in
-      starts-cases P openWord s (λ e. rw e (withA-told (next mostId (drop 4 s))))
-      (starts-cases P seatWord s (λ e. given-told after seatLine (λ v. (refl, omega arith)) (last (next mostId (drop 4 s))))
-      (starts-cases P outWord s (λ e. given-told after outLine (λ v. (refl, omega arith)) (last (next mostId (drop 3 s))))
-      (starts-cases P findWord s (λ e. given-told after findLine (λ v. (refl, omega arith)) (last (next mostKey (drop 4 s))))
-      (refl, omega arith))))
-
   pub told : (s after : List ℕ) (r : Line) → IsLine (commandOf s, idsRead s) before (r, after) → (lineOf after r ≡ commandOf s) × (lineCount r ≤ length after)
-  told s after r is = rw (is .line, is .stand) (line-told s)
+  unfolding commandOf idsRead
+  told s after r is =
+      let stood = standFirst (idsRead s) before in
+      let P = Told stood in
+      rw (is .line, is .stand)
+      (starts-cases P openWord s (λ e. rw e (withA-told (next mostId (drop 4 s))))
+      (starts-cases P seatWord s (λ e. given-told stood seatLine (λ v. (refl, omega arith)) (last (next mostId (drop 4 s))))
+      (starts-cases P outWord s (λ e. given-told stood outLine (λ v. (refl, omega arith)) (last (next mostId (drop 3 s))))
+      (starts-cases P findWord s (λ e. given-told stood findLine (λ v. (refl, omega arith)) (last (next mostKey (drop 4 s))))
+      (refl, omega arith)))))

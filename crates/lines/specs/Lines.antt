@@ -62,16 +62,16 @@ noIds whole = record { ids = []; whole = whole }
 abbrev pub before : ℕ → Ids → Ids
 before id more = record { ids = id ∷ more .ids; whole = more .whole }
 
-abbrev pub withIds : Read → (List ℕ → Ids) → Ids
-withIds bad rest = noIds false
-withIds (got id bs) rest = before id (rest bs)
+abbrev pub idThen : Read → (List ℕ → Ids) → Ids
+idThen bad rest = noIds false
+idThen (got id bs) rest = before id (rest bs)
 
 -- fewer than `most`
 unfoldable pub idsOf : ℕ → List ℕ → Ids
 unfolding next
 idsOf zero bs = noIds false
 idsOf (suc most) [] = noIds true
-idsOf (suc most) (b ∷ bs) = withIds (next mostId (b ∷ bs)) (idsOf most)
+idsOf (suc most) (b ∷ bs) = idThen (next mostId (b ∷ bs)) (idsOf most)
 
 -- all of them: there are no more than bytes
 abbrev pub idsIn : List ℕ → Ids

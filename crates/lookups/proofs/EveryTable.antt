@@ -1,5 +1,5 @@
 -- Document 01's hash is one of the draws that the theorems speak of, since a remainder is below what it is divided by.
-use Prim.Native.Nat.{ℕ, _<_}
+use Rattle.promises.proofs.Prelude.{ℕ, _<_}
 use native.Mathlib.Nat.{mod-lt}
 use Rattle.rules.specs.Keys.{hash₁, hash, firstOf, pickOf}
 use Rattle.lookups.specs.EveryTable.{Draws}

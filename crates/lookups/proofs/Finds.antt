@@ -1,12 +1,6 @@
 -- The two rules go from seat to seat together: at a seat out of use the walk ends at the seat that stood at the position drawn.
 -- A falls at each redraw, and is at least N until it is 0; so the redraws end on a seat in use, and are a - N at most.
-use mathlib.Core.Path.{_≡_, refl, sym, subst}
-use mathlib.Core.List.{List, []}
-use mathlib.Core.Logic.{inl, inr}
-use Prim.Native.Nat.{ℕ, zero, suc, _+_, _-_, _<_, _≤_}
-use native.Mathlib.Omega.{arith}
-use native.Mathlib.Decide.{ℕ-discrete}
-use borrow.Author.Tests.{ne-eqb}
+use Rattle.promises.proofs.Prelude.{_≡_, refl, sym, subst, List, [], ℕ, _-_, _≤_, _<_, _+_, suc, zero, arith, ℕ-discrete, ne-eqb}
 use Rattle.rules.specs.Table.{_!_, Bare}
 use Rattle.rules.specs.Keys.{Move, full, movesOf, since, Found, on, draw, Looked, found, lookup}
 use Rattle.rules.proofs.Accepts.{opening}
@@ -17,8 +11,7 @@ use Rattle.sound.proofs.Reached.{reached-kept}
 use Rattle.lookups.specs.EveryTable.{Draws, EveryTable}
 use Rattle.rules.proofs.Walks.{walk-end, lookup-here}
 use Rattle.lookups.proofs.Walks.{gone}
-use Rattle.lookups.proofs.Since.{Lines, lines-since}
-use Rattle.lookups.proofs.Leads.{leads-seats, history-leads}
+use Rattle.lookups.proofs.Leads.{leads-seats, history-leads, Lines, lines-since}
 
 -- what both rules find after d draws, with c redraws at most
 pub record Finds (T : Bare) (d c : ℕ) (looked : Looked) (f : Found) : Type 0 where
@@ -29,9 +22,6 @@ pub record Finds (T : Bare) (d c : ℕ) (looked : Looked) (f : Found) : Type 0 w
   pub most : f .draws ≤ d + c
 
 module _ (T : Bare) (ms : List Move) (pick : ℕ → ℕ → ℕ) (picks : Draws pick) (g : Kept T) (lines : Lines T (λ x. since x [] (full (T .seats)) ms)) where
-  abbrev next : ℕ → ℕ
-  next b = since b [] (full (T .seats)) ms ! pick b (T .A ! b)
-
   draw-here : (fuel d b : ℕ) → T .A ! b ≡ 0 → draw T ms pick fuel d b ≡ on b d
   unfolding draw
   draw-here zero d b z = refl
@@ -53,9 +43,8 @@ module _ (T : Bare) (ms : List Move) (pick : ℕ → ℕ → ℕ) (picks : Draws
         let w = lines b (pick b (T .A ! b)) (picks b _ (omega arith)) in
         let end = walk-end (T .A) (T .K) (T .A ! b) (T .seats) _ w in
         let late = gone g b ne in
-        let r = finds fuel more (c - 1) (d + 1) (next b) (omega arith) (omega arith) (omega arith) (omega arith) in
-        rw (ne-eqb (T .A ! b) 0 ne, lenA, w)
-        (record { agrees = r .agrees; below = r .below; inUse = r .inUse; some = omega (arith, r .some); most = omega (arith, r .most) })
+        let r = finds fuel more (c - 1) (d + 1) (since b [] (full (T .seats)) ms ! pick b (T .A ! b)) (omega arith) (omega arith) (omega arith) (omega arith) in
+        rw (ne-eqb (T .A ! b) 0 ne, lenA, w) (record { agrees = r .agrees; below = r .below; inUse = r .inUse; some = omega arith; most = omega arith })
   ]
 
 -- from the first seat, on every table that a history leaves
@@ -66,6 +55,6 @@ every T r pick first picks i =
     let g = reached-kept r in
     let run = history-leads r in
     let lines = lines-since run (test-full (r .a) (omega (arith, opening (r .opens)))) (λ x. []) (λ x q h. absurd (omega (arith, zeros-at (r .a) x))) in
-    let low : U .A ! first < U .seats = elim (g .order .each first i) [ inl z ↦ omega arith | inr o ↦ o .1 ] in
+    let low : U .A ! first < U .seats = elim (ℕ-discrete (U .A ! first) 0) [ yes z ↦ omega arith | no ne ↦ g .order .each first i ne .1 ] in
     finds U ms pick picks g (subst (λ (a : ℕ). Lines U (λ x. since x [] (full a) ms)) (sym (leads-seats run)) lines)
     (U .A ! first) (U .seats) (U .seats - U .used) 1 first i (omega arith) (omega arith) (omega arith)

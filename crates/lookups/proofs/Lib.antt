@@ -1,8 +1,6 @@
 -- Laws.
 pub mod Walks
-pub mod Front
 pub mod Leads
-pub mod Since
 pub mod Finds
 -- Theorems.
 pub mod EveryTable

@@ -1,18 +1,20 @@
 -- Walks along K, before and after a change. Taking b out is not seen by a walk for m if fewer than m are in use then: it stops at b
--- before and after.
-use mathlib.Core.Path.{_≡_, sym, _∙_}
-use mathlib.Core.Logic.{_≢_, inl, inr}
-use Prim.Native.Nat.{ℕ, zero, suc, _-_, _<_, _≤_}
-use native.Mathlib.Omega.{arith}
-use native.Mathlib.Decide.{ℕ-discrete, decLt}
-use lib.ListN.{length, length-set, List·getD-eq-default}
+-- before and after. And a walk from a position of the line ends at the seat that stands there: in a full table no step is taken, and when
+-- b leaves, the walk that ended at b goes on by K to the seat that takes its place, and the others end as they did.
+use Rattle.promises.proofs.Prelude.{_≡_, _∙_, sym, ap, subst, _≢_, List, ℕ, _-_, _≤_, _<_, suc, zero, arith, ℕ-discrete, decLt, length, length-set}
+use lib.ListN.{List·getD-eq-default}
 use Rattle.rules.specs.Table.{_!_, Bare}
 use Rattle.rules.specs.Changes.{out, Leaves}
-use Rattle.rules.specs.Keys.{Walk, at, walk}
+use Rattle.rules.specs.Keys.{Walk, at, walk, full}
 use Rattle.rules.proofs.Walks.{never, stops, goes, comes-zero, comes-suc, walk-stops, walk-goes}
+use Rattle.rules.proofs.Lists.{differ, own-at}
 use Rattle.sound.specs.Kept.{Kept}
-use Rattle.rules.proofs.Lists.{differ}
-use Rattle.sound.proofs.Written.{Written}
+use Rattle.sound.specs.Removals.{after, Takeable}
+use Rattle.sound.specs.Test.{Test}
+use Rattle.sound.proofs.Written.{Written, written}
+use Rattle.sound.proofs.KeptOut.{kept-full, kept-out}
+use Rattle.sound.proofs.Made.{fewer-still, after-is, next-leaves}
+use Rattle.sound.proofs.Audit.{R-takeable, as-made}
 
 -- the walk of a table
 abbrev pub walkIn : Bare → ℕ → ℕ → ℕ → Walk
@@ -22,12 +24,30 @@ walkIn T m fuel h = walk (T .A) (T .K) m fuel h
 pub gone : {T : Bare} → Kept T → (x : ℕ) → T .A ! x ≢ 0 → T .used ≤ T .A ! x
 gone {T} g x ne = elim (decLt x (T .seats)) [
   | no h ↦ absurd (ne (List·getD-eq-default (T .A) 0 (omega (arith, g .shape .lenA))))
-  | yes h ↦ elim (g .order .each x h) [ inl z ↦ absurd (ne z) | inr o ↦ o .0 ]
+  | yes h ↦ g .order .each x h ne .0
 ]
 
-module _ (T : Bare) (b : ℕ) (g : Kept T) (v : Leaves T b) (w : Written T b) where
+-- a walk follows K once for each removal at most
+abbrev pub Front : Bare → Type 0
+Front T = (q fuel : ℕ) → q < T .used → T .seats - T .used ≤ fuel → walkIn T (T .used) fuel q ≡ at (T .W ! q)
+
+-- it stops at a seat of the line
+stands : {T : Bare} → Kept T → (q fuel : ℕ) → q < T .used → walkIn T (T .used) fuel (T .W ! q) ≡ at (T .W ! q)
+stands {T} g q fuel h =
+    let l = g .line q h in
+    walk-stops (T .A) (T .K) (T .used) fuel (T .W ! q) (omega (arith, g .shape .lenA)) (omega arith)
+
+front-full : (a : ℕ) → 1 ≤ a → Front (full a)
+front-full a h q fuel l m =
+    let own : full a .W ! q ≡ q = own-at a q l in
+    rw own (rw own at (stands (kept-full a h) q fuel l))
+
+module _ {T : Bare} {b : ℕ} (g : Kept T) (v : Leaves T b) where
   abbrev T′ : Bare
   T′ = out T b
+
+  abbrev w : Written T b
+  w = written g v
 
   pub length-out : length (T′ .A) ≡ length (T .A)
   length-out = length-set (T .A) b _
@@ -58,3 +78,32 @@ module _ (T : Bare) (b : ℕ) (g : Kept T) (v : Leaves T b) (w : Written T b) wh
         walk-goes (T′ .A) (T′ .K) (T .used - 1) (suc fuel) h (rw length-out i) (rw (w .A-off h nb) (omega arith))
         ∙ rw (w .K-off h nb) (walk-on fuel (T .K ! h) k on)
   ]
+
+  -- from who stood at q to who stands there
+  onward : (q fuel : ℕ) → q < T .used - 1 → walkIn T′ (T .used - 1) (suc fuel) (T .W ! q) ≡ at (T′ .W ! q)
+  onward q fuel h =
+      let there = stands (kept-out g v) q in
+      elim (ℕ-discrete q (w .position)) [
+        | no ne ↦ rw (← w .W-off q ne) (there (suc fuel) h)
+        | yes e ↦
+            let was : T .W ! q ≡ b = cc (w .there) in
+            let now : T′ .W ! q ≡ T′ .K ! b = cc (w .W-at, w .K-at) in
+            rw was (walk-goes (T′ .A) (T′ .K) (T .used - 1) fuel b (simp length-set (omega (arith, g .shape .lenA))) (rw (w .A-at) (omega arith)))
+            ∙ ap (walkIn T′ (T .used - 1) fuel) (sym now)
+            ∙ there fuel h
+      ]
+
+  front-out : Front T → Front T′
+  front-out f q zero h l = absurd (omega (arith, g .shape .most))
+  front-out f q (suc fuel) h l = walk-on fuel q (f q fuel (omega arith) (omega (arith, g .shape .most))) (λ i. onward q i h)
+
+front-after : (a : ℕ) (rs : List ℕ) (k : ℕ) → Takeable a rs k → Front (after a rs k)
+unfolding after
+front-after a rs zero t = front-full a (omega arith)
+front-after a rs (suc k) t =
+    let few : Takeable a rs k = fewer-still t (omega arith) in
+    let d = after-is a rs k few in
+    front-out (d .kept) (next-leaves t d) (front-after a rs k few)
+
+pub front : (T : Bare) → Test T → Front T
+front T t = subst Front (sym (as-made T t)) (front-after (T .seats) (T .R) (T .seats - T .used) (R-takeable T t))

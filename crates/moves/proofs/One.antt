@@ -1,6 +1,5 @@
 -- The promise of seating leaves one outcome.
-use mathlib.Core.Path.{sym, _∙_}
-use Prim.Native.Nat.{ℕ}
+use Rattle.promises.proofs.Prelude.{_∙_, sym, ℕ}
 use Rattle.promises.specs.One.{One}
 use Rattle.rules.specs.Table.{Table}
 use Rattle.moves.specs.Moves.{LastSeated}

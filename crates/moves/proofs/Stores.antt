@@ -1,13 +1,9 @@
 -- The stores of a change, one after the other, leave the words of the change.
-use mathlib.Core.Path.{_≡_, refl, ap, _∙_}
-use mathlib.Core.List.{List}
-use Prim.Native.Nat.{ℕ, _+_, _-_, _<_}
-use native.Mathlib.Omega.{arith}
-use lib.ListN.{set}
+use Rattle.promises.proofs.Prelude.{_≡_, refl, _∙_, ap, List, ℕ, _-_, _<_, _+_, arith, set}
 use Rattle.rules.specs.Table.{_!_, Table, withBare, head, parts, words, base, part, tableFor}
-use Rattle.rules.specs.Runs.{Legal}
+use Rattle.rules.specs.Runs.{Legal, Holds}
 use Rattle.rules.specs.Changes.{lastOut, takeOut, seatId, Leaves}
-use Rattle.rules.proofs.Words.{Holds, holds-table, holds-head, holds-put, holds-part}
+use Rattle.rules.proofs.Words.{holds-table, holds-head, holds-put, holds-part}
 use Rattle.sound.specs.Test.{Test}
 use Rattle.moves.proofs.Ready.{last-out-below, next-below, back-below, place-below, end-below}
 

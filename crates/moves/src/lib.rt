@@ -1,6 +1,6 @@
 // Taking out a seat and seating the last one out, in a run that allows it.
 ghost use mathlib.Core.Path.{_≡_};
-ghost use Prim.Native.Nat.{_+_, _-_, _<_, _≤_};
+ghost use Prim.Native.Nat.{_+_, _-_, _<_};
 ghost use lib.ListN.{set};
 ghost use Rattle.rules.specs.Table.{base, words, tableFor};
 ghost use Rattle.rules.specs.Runs.{Shape, Legal};
@@ -24,7 +24,7 @@ use steps::set_n;
 use steps::wipe_r;
 
 // The seat b is out of use: R, N and A say so.
-fn date(t: &mut [u32], a: usize, b: Seat, n: u32)
+fn retire(t: &mut [u32], a: usize, b: Seat, n: u32)
     requires { ⌜ (Shape (now t) a) × (b .0 < a) × (n < a) ⌝ }
     ensures { λ _. ⌜ now (t .exit) ≡ set (set (set (now (t .entry)) (base a 4 + (a - (n + 1))) (b .0)) 1 n) (base a 0 + b .0) n ⌝ }
 {
@@ -51,13 +51,13 @@ pub fn take_out_seat(t: &mut [u32], a: usize, b: Seat)
     let n = get_n(t) - 1;
     let last = get_w(t, a, Position(n));
     let position = get_l(t, a, b);
-    date(t, a, b, n);
+    retire(t, a, b, n);
     close_up(t, a, b, last, position);
     put_s(t, a, b, 0);
 }
 
 // The seat b, out of use since the line had n seats, is in use again: R, A and L say so.
-fn undate(t: &mut [u32], a: usize, b: Seat, last: Seat, n: u32)
+fn restore(t: &mut [u32], a: usize, b: Seat, last: Seat, n: u32)
     requires { ⌜ (Shape (now t) a) × (b .0 < a) × (last .0 < a) × (n < a) ⌝ }
     ensures { λ _. ⌜ now (t .exit) ≡ set (set (set (now (t .entry)) (base a 4 + (a - n - 1)) 0) (base a 0 + b .0) 0) (base a 3 + last .0) n ⌝ }
 {
@@ -84,7 +84,7 @@ pub fn seat_last(t: &mut [u32], a: usize, id: u32) -> Seat
     let n = get_n(t);
     let b = get_r(t, a, a - n as usize - 1);
     let last = get_w(t, a, Position(n));
-    undate(t, a, b, last, n);
+    restore(t, a, b, last, n);
     let position = get_l(t, a, b);
     open_up(t, a, b, position, n);
     put_s(t, a, b, id);

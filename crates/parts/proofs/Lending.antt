@@ -1,9 +1,5 @@
 -- A store into a lent part is a store into the run.
-use mathlib.Core.Path.{_≡_}
-use mathlib.Core.List.{List, _++_}
-use Prim.Native.Nat.{ℕ, _+_, _-_}
-use native.Mathlib.Omega.{arith}
-use lib.ListN.{take, drop, set}
+use Rattle.promises.proofs.Prelude.{_≡_, List, _++_, ℕ, _-_, _+_, arith, drop, set, take}
 use Rattle.rules.specs.Table.{base}
 use Rattle.rules.proofs.Parts.{part-put}
 use Rattle.parts.specs.Shape.{Lent}

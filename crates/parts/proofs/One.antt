@@ -1,6 +1,5 @@
 -- The promises of the reads that answer a part, a seat or a position leave one outcome.
-use mathlib.Core.List.{List}
-use Prim.Native.Nat.{ℕ}
+use Rattle.promises.proofs.Prelude.{List, ℕ}
 use Rattle.promises.specs.One.{One}
 use Rattle.promises.proofs.One.{one-equal, one-read}
 use Rattle.rules.specs.Table.{part}

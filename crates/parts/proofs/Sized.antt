@@ -1,9 +1,5 @@
 -- What `size_of` tells of a run.
-use mathlib.Core.Path.{_≡_, refl}
-use mathlib.Core.Bool.{Bool, true, false, cond}
-use mathlib.Core.List.{List}
-use Prim.Native.Nat.{ℕ}
-use native.Mathlib.Omega.{arith}
+use Rattle.promises.proofs.Prelude.{_≡_, refl, true, false, Bool, cond, List, ℕ, arith}
 use Rattle.rules.specs.Table.{_!_, legal}
 use Rattle.rules.specs.Runs.{Legal}
 use Rattle.parts.specs.Shape.{sizeOf}

@@ -1,7 +1,7 @@
 -- What is known once a test has answered.
 use mathlib.Core.Path.{_≡_, refl}
 use mathlib.Core.Bool.{Bool, true, false, not, _&&_, _||_}
-use mathlib.Core.Logic.{_≢_}
+use mathlib.Core.Logic.{_≢_, _⊎_, inl, inr}
 use Prim.Native.Nat.{ℕ, _+_, _<_}
 use native.Mathlib.Omega.{arith}
 use borrow.Author.Count.{below-more}
@@ -12,6 +12,11 @@ use Rattle.promises.specs.Decides.{Decides, decided}
 -- no Bool is both
 pub true-or-false : {P : Type 0} (t : Bool) → t ≡ true → t ≡ false → P
 true-or-false t p q = let z : _≡_ {A = ℕ} 0 1 = cc in absurd (omega arith)
+
+-- and each is one
+pub bool-cases : (t : Bool) → (t ≡ true) ⊎ (t ≡ false)
+bool-cases true = inl refl
+bool-cases false = inr refl
 
 pub both : (p q : Bool) → (p && q) ≡ true → (p ≡ true) × (q ≡ true)
 both true q e = (refl, e)

@@ -1,5 +1,4 @@
 -- Saving.
-pub mod Putting
 pub mod Saves
 -- Loading.
 pub mod Built

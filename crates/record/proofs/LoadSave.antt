@@ -1,11 +1,7 @@
 -- The run that was loaded holds the record's table, whose record the bytes are.
-use mathlib.Core.Path.{_≡_, refl, sym, ap, _∙_, subst}
-use mathlib.Core.List.{List, [], _∷_, _++_}
-use Prim.Native.Nat.{ℕ, _≤_}
-use lib.ListN.{length, drop}
+use Rattle.promises.proofs.Prelude.{_≡_, refl, _∙_, sym, ap}
 use Rattle.rules.specs.Table.{words, tableOf}
 use Rattle.rules.specs.History.{Sound}
-use Rattle.rules.specs.Answers.{done}
 use Rattle.rules.proofs.Words.{tableOf-words}
 use Rattle.sound.proofs.Sound.{sized}
 use Rattle.saved.specs.Record.{recordOf}
@@ -18,10 +14,4 @@ theorem s w out r size room =
     let T = r .table in
     let sound : Sound (words T) = record { table = T; reached = r .reached; isWords = refl } in
     let same : recordOf (tableOf (words T)) ≡ s = ap recordOf (tableOf-words T (sized (r .reached))) ∙ r .isRecord in
-    record {
-      built = words T;
-      loads = sym (load-is w r size);
-      saves =
-          sym (save-is sound refl out (subst (λ (x : List ℕ). length x ≤ length out) (sym same) room))
-          ∙ ap (λ (x : List ℕ). done (length x ∷ []) (x ++ drop (length x) out)) same;
-    }
+    record { built = words T; loads = sym (load-is w r size); saves = rw same at (sym (save-is sound refl out (rw same room))) }

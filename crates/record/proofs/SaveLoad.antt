@@ -1,16 +1,10 @@
 -- The bytes that were saved are the record of the run's table, which reads back.
-use mathlib.Core.Path.{refl, sym, ap, _∙_, subst}
-use mathlib.Core.List.{List, [], _∷_, _++_}
-use Prim.Native.Nat.{ℕ, _≤_}
-use lib.ListN.{length, drop}
-use lib.Seq.{take-at}
-use Rattle.rules.specs.Table.{_!_, tableOf}
-use Rattle.rules.specs.Answers.{done}
+use Rattle.promises.proofs.Prelude.{refl, _∙_, sym, take-at}
+use Rattle.rules.specs.Table.{tableOf}
 use Rattle.rules.proofs.Words.{words-tableOf}
 use Rattle.sound.proofs.Sound.{sound-legal, sound-table}
 use Rattle.saved.specs.Record.{recordOf, IsRecord}
 use Rattle.saved.proofs.Length as length
-use Rattle.record.specs.Calls.{loadCall}
 use Rattle.record.specs.SaveLoad.{SaveLoad}
 use Rattle.record.proofs.Saves.{save-is}
 use Rattle.record.proofs.Loads.{load-is}
@@ -23,10 +17,7 @@ theorem w out w′ sound room size =
     let long = length.theorem T (sound-table sound) in
     let r : IsRecord s = record { table = T; reached = sound-table sound; isRecord = refl } in
     record {
-      written = s ++ drop (length s) out;
-      saves = sym (save-is sound refl out (subst (λ (n : ℕ). n ≤ length out) (sym long) room)) ∙ ap (λ (n : ℕ). done (n ∷ []) (s ++ drop (length s) out)) long;
-      loads =
-          ap (loadCall w′) (take-at s (drop (length s) out) _ long)
-          ∙ sym (load-is w′ r (size ∙ l .shape .size))
-          ∙ ap (λ (x : List ℕ). done (w ! 1 ∷ []) x) (words-tableOf w (l .shape .size));
+      written = _;
+      saves = rw long at (sym (save-is sound refl out (rw long room)));
+      loads = rw (take-at s _ _ long, ← load-is w′ r (size ∙ l .shape .size), words-tableOf w (l .shape .size));
     }

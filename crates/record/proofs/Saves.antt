@@ -1,30 +1,23 @@
 -- What each way out of a save answers. The record's three runs of bytes follow each other, so they are the record whole.
-use mathlib.Core.Path.{_≡_, sym, ap, ap₂, _∙_}
-use mathlib.Core.List.{List, [], _∷_, _++_}
-use Prim.Native.Nat.{ℕ, _+_, _-_, _<_, _≤_}
-use native.Mathlib.Nat.{zero-add}
-use native.Mathlib.Omega.{arith}
-use lib.ListN.{length, drop}
-use lib.Seq.{sets, sets-eq}
-use lib.Dec.{ltb}
-use borrow.Author.Tests.{lt-ltb, le-ltb}
+use Rattle.promises.proofs.Prelude.{_≡_, _∙_, ap, List, [], _∷_, _++_, ℕ, _-_, _≤_, _<_, zero-add, arith, length, drop, sets, ltb, le-ltb, lt-ltb}
+use lib.Seq.{sets-eq}
 use Rattle.rules.specs.Table.{_!_, Table, tableOf}
 use Rattle.rules.specs.History.{Sound}
 use Rattle.rules.specs.Answers.{refused, Outcome, refusedAt, done, _⇒_, none, more}
 use Rattle.rules.specs.declared.Refusal.{Refusal}
 use Rattle.rules.specs.declared.Refusal.the-variants.{Room}
 use Rattle.rules.proofs.Occasions.{here, first-is, free-is}
-use Rattle.sound.proofs.Reached.{Passes, passes}
+use Rattle.sound.specs.Test.{Passes}
+use Rattle.sound.proofs.Reached.{passes}
 use Rattle.sound.proofs.Sound.{sound-legal, sound-table}
 use Rattle.audit.specs.Audit.{auditCall}
 use Rattle.audit.proofs.Told.{refused-first, sound-later, sound-free}
 use Rattle.fields.specs.declared.Form.{Form}
 use Rattle.fields.specs.Form.{formFor, outAt, inAt}
 use Rattle.saved.specs.Record.{headRecord, each, removalRecord, seatRecord, recordIn, recordOf}
-use Rattle.saved.proofs.Ranks.{rank-all, seats-end}
+use Rattle.saved.proofs.Each.{put-then}
 use Rattle.saved.proofs.Holds.{head-end, removals-end, length-recordIn}
 use Rattle.record.specs.Calls.{saveCall}
-use Rattle.record.proofs.Putting.{put-then}
 
 pub save-refused : (w out : List ℕ) (r : Refusal) → refused r ≡ auditCall w → refusedAt out r ≡ saveCall w out
 unfolding saveCall
@@ -42,7 +35,7 @@ module _ {w : List ℕ} (s : Sound w) {f : Form} (own : formFor (w ! 0) ≡ f) w
   abbrev r : List ℕ
   r = recordOf T
 
-  good : Passes T
+  pub good : Passes T
   good = passes (sound-table s)
 
   in-form : r ≡ recordIn f T
@@ -55,12 +48,6 @@ module _ {w : List ℕ} (s : Sound w) {f : Form} (own : formFor (w ! 0) ≡ f) w
   pub long : 1 < length w
   long = omega (arith, sound-legal s .shape)
 
-  pub fewer : w ! 1 ≤ w ! 0
-  fewer = good .test .shape .most
-
-  pub ins-end : outAt f m + length (each (seatRecord f T) (w ! 0)) ≡ inAt f m (w ! 1)
-  ins-end = seats-end f T m (w ! 0) ∙ ap (inAt f m) (rank-all (T .bare) (good .test))
-
   abbrev saves : List ℕ → Outcome
   saves out = done (length r ∷ []) (r ++ drop (length r) out)
 
@@ -72,18 +59,15 @@ module _ {w : List ℕ} (s : Sound w) {f : Form} (own : formFor (w ! 0) ≡ f) w
   unfolding saveCall
   save-is out h = free-is (refusedAt out) (saves out) (sound-free s (more {r = Room} (le-ltb (length out) (length r) h) none))
 
-  pub save-done : (out o₁ o₂ o₃ : List ℕ) → inAt f m (w ! 1) ≤ length out
+  pub save-done : (out : List ℕ) {o₁ o₂ o₃ : List ℕ} → inAt f m (w ! 1) ≤ length out
       → o₁ ≡ sets out 0 (headRecord f (w ! 0) (w ! 1))
       → o₂ ≡ sets o₁ (outAt f 0) (each (removalRecord f T) m)
       → o₃ ≡ sets o₂ (outAt f m) (each (seatRecord f T) (w ! 0))
       → done (inAt f m (w ! 1) ∷ []) o₃ ≡ saveCall w out
   unfolding recordIn
-  save-done out o₁ o₂ o₃ h e₁ e₂ e₃ =
-      let head = headRecord f (w ! 0) (w ! 1) in
+  save-done out {o₁} {o₂} {o₃} h e₁ e₂ e₃ =
       let outs = each (removalRecord f T) m in
       let ins = each (seatRecord f T) (w ! 0) in
-      let bodied : o₃ ≡ sets o₁ (outAt f 0) (outs ++ ins) = put-then o₁ o₂ o₃ (outAt f 0) (outAt f m) outs ins (sym (removals-end f T m)) e₂ e₃ in
-      let whole : o₃ ≡ sets out 0 r = put-then out o₁ o₃ 0 (outAt f 0) head (outs ++ ins) (sym (head-end f T)) e₁ bodied ∙ ap (sets out 0) (sym in-form) in
-      let written : o₃ ≡ r ++ drop (length r) out = whole ∙ sets-eq r out 0 (omega (arith, size)) ∙ ap (λ (n : ℕ). r ++ drop n out) (zero-add (length r)) in
-      ap₂ (λ (n : ℕ) (o : List ℕ). done (n ∷ []) o) (sym size) written
-      ∙ save-is out (omega (arith, size))
+      let whole = put-then out 0 (headRecord f (w ! 0) (w ! 1)) (outs ++ ins) (head-end f T) e₁ (put-then o₁ (outAt f 0) outs ins (removals-end f T m) e₂ e₃) in
+      let written : o₃ ≡ r ++ drop (length r) out = whole ∙ rw (← in-form) (sets-eq r out 0 (omega (arith, size)) ∙ rw zero-add) in
+      rw (written, ← size) (save-is out (omega (arith, size)))

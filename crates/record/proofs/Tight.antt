@@ -1,5 +1,5 @@
 -- The promises of `save` and `load` leave one outcome: an answer's number and values say which result it is.
-use mathlib.Core.Path.{refl}
+use Rattle.promises.proofs.Prelude.{refl}
 use Rattle.promises.specs.One.{One}
 use Rattle.rules.specs.Answers.{Outcome, Results}
 use Rattle.rules.proofs.One.{one-results, OneOf, is-ok, is-no, apart-by}

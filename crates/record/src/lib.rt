@@ -8,7 +8,7 @@ ghost use Rattle.rules.specs.History.{Sound};
 ghost use Rattle.rules.specs.Runs.{Shape};
 ghost use Rattle.rules.specs.Answers.{Results};
 ghost use Rattle.fields.specs.Form.{formFor, outLength, inLength, outAt};
-ghost use Rattle.saved.specs.Reader.{rank, serverOf, tableIn};
+ghost use Rattle.saved.specs.Reader.{rank, serverOf, bareFrom, tableRead};
 ghost use Rattle.saved.specs.Record.{headRecord, outRecord, inRecord, each, seatRecord, removalRecord};
 ghost use Rattle.saved.specs.Fits.{Good};
 ghost use Rattle.record.specs.Building.{Laid, Next};
@@ -167,8 +167,8 @@ fn take_all(t: &mut [u32], f: Form, s: &[u8], a: usize, n: usize)
 // The server of seat b, the j-th in use, or none. Answers the seats in use up to b.
 fn put_server(t: &mut [u32], f: Form, s: &[u8], a: usize, m: usize, b: Seat, j: usize) -> usize
     requires { ⌜ Next f (now s) (now t) a m (b .0) j ⌝ }
-    ensures next { λ r. ⌜ r ≡ rank (tableFor a (now (t .entry)) .bare .A) (b .0 + 1) ⌝ }
-    ensures run { λ r. ⌜ now (t .exit) ≡ set (now (t .entry)) (base a 5 + b .0) (serverOf f (now (s .entry)) m (tableFor a (now (t .entry)) .bare .A) (b .0)) ⌝ }
+    ensures next { λ r. ⌜ r ≡ rank (bareFrom f (now (s .entry)) a m m .A) (b .0 + 1) ⌝ }
+    ensures run { λ r. ⌜ now (t .exit) ≡ set (now (t .entry)) (base a 5 + b .0) (serverOf f (now (s .entry)) m (bareFrom f (now (s .entry)) a m m .A) (b .0)) ⌝ }
 {
     if get_a(t, a, b) != 0 {
         put_s(t, a, b, 0);
@@ -181,7 +181,7 @@ fn put_server(t: &mut [u32], f: Form, s: &[u8], a: usize, m: usize, b: Seat, j: 
 // The part S.
 fn put_servers(t: &mut [u32], f: Form, s: &[u8], a: usize, n: usize)
     requires { ⌜ (Good f (now s) a n) × (Laid f (now s) (now t) a (a - n) (a - n)) ⌝ }
-    ensures { λ _. ⌜ now (t .exit) ≡ words (tableIn f (now (s .entry)) a n) ⌝ }
+    ensures { λ _. ⌜ now (t .exit) ≡ words (tableRead f (now (s .entry)) a n) ⌝ }
 {
     let m = a - n;
     let mut j: usize = 0;
@@ -195,7 +195,7 @@ fn put_servers(t: &mut [u32], f: Form, s: &[u8], a: usize, n: usize)
 // The table of a good record.
 fn build(t: &mut [u32], f: Form, s: &[u8], a: usize, n: usize)
     requires { ⌜ (Good f (now s) a n) × (Shape (now t) a) ⌝ }
-    ensures { λ _. ⌜ now (t .exit) ≡ words (tableIn f (now (s .entry)) a n) ⌝ }
+    ensures { λ _. ⌜ now (t .exit) ≡ words (tableRead f (now (s .entry)) a n) ⌝ }
 {
     lay_bare(t, a, a);
     take_all(t, f, s, a, n);

@@ -1,11 +1,6 @@
 -- The lists of refusals say just what `Asks` does: what an accepted opening or change tells, and what makes one accepted.
-use mathlib.Core.Path.{_≡_, refl, ap}
-use mathlib.Core.Bool.{Bool, true, false, not}
-use mathlib.Core.List.{List}
-use Prim.Native.Nat.{ℕ, _<_}
-use native.Mathlib.Omega.{arith}
-use lib.ListN.{length}
-use borrow.Author.Tests.{ne-eqb, eqb-false, le-ltb, ltb-false}
+use Rattle.promises.proofs.Prelude.{_≡_, refl, ap, true, false, Bool, not, List, ℕ, _<_, arith, length, ne-eqb, le-ltb}
+use borrow.Author.Tests.{eqb-false, ltb-false}
 use Rattle.promises.proofs.Decided.{true-or-false}
 use Rattle.rules.specs.Table.{_!_, Table, mostSeats}
 use Rattle.rules.specs.Ids.{occurs}

@@ -1,13 +1,8 @@
 -- What the tests of a list of ids say of each place of it.
-use mathlib.Core.Path.{_≡_, refl, sym}
-use mathlib.Core.Bool.{Bool, true, false, not, _&&_, _||_, cond}
-use mathlib.Core.List.{List, [], _∷_}
-use mathlib.Core.Logic.{_≢_}
-use Prim.Native.Nat.{ℕ, zero, suc, _<_}
-use native.Mathlib.Omega.{arith}
-use lib.ListN.{length}
-use lib.Dec.{eqb}
-use borrow.Author.Tests.{eq-eqb, ne-eqb, eqb-true, eqb-false}
+use Rattle.promises.proofs.Prelude.{_≡_, refl, sym, _≢_, true, false, Bool, not, _&&_, cond, List, [], _∷_, ℕ, _<_, suc, zero, arith, length, eqb, ne-eqb}
+use Rattle.promises.proofs.Prelude.{eq-eqb, eqb-true}
+use mathlib.Core.Bool.{_||_}
+use borrow.Author.Tests.{eqb-false}
 use Rattle.rules.specs.Table.{_!_}
 use Rattle.promises.proofs.Decided.{true-or-false, neither}
 use Rattle.rules.specs.Ids.{occurs, repeats, placeOf}

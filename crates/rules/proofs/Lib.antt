@@ -1,10 +1,11 @@
 -- Theorems.
 pub mod WorkedExamples
 pub mod Undo
--- Laws of lists, runs and parts.
+-- Laws of lists, runs, parts and openings.
 pub mod Lists
 pub mod Parts
 pub mod Words
+pub mod Openings
 -- Laws of keys.
 pub mod Walks
 -- Laws of ids and answers.

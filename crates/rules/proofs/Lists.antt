@@ -1,15 +1,9 @@
 -- Laws of lists of words that the library lacks.
-use mathlib.Core.Path.{_≡_, refl, sym, ap, _∙_}
-use mathlib.Core.List.{List, [], _∷_, _++_}
-use Prim.Native.Nat.{ℕ, zero, suc, _+_, _-_, _<_, _≤_}
-use native.Mathlib.Nat.{add-zero}
-use native.Mathlib.Omega.{arith}
-use native.Mathlib.Decide.{ℕ-discrete, decLt}
-use lib.ListN.{length, set, replicate}
-use lib.Seq.{getD-set-other, set-getD, set-set, sets}
-use mathlib.Core.Logic.{_≢_}
+use Rattle.promises.proofs.Prelude.{_≡_, refl, _∙_, sym, ap, _≢_, List, [], _∷_, _++_, ℕ, _-_, _<_, _+_, suc, zero, add-zero, arith, ℕ-discrete, decLt, length}
+use Rattle.promises.proofs.Prelude.{set, replicate, getD-set-other, sets}
+use lib.Seq.{set-getD, set-set}
 use Rattle.rules.specs.Table.{_!_}
-use Rattle.rules.specs.Changes.{count, down}
+use Rattle.rules.specs.Changes.{count}
 
 -- neither number is below the other
 pub not-apart : (x y : ℕ) → (x < y → ⊥) → (y < x → ⊥) → x ≡ y
@@ -32,26 +26,6 @@ pub zeros-at : (n i : ℕ) → replicate n 0 ! i ≡ 0
 zeros-at zero i = refl
 zeros-at (suc n) zero = refl
 zeros-at (suc n) (suc i) = zeros-at n i
-
-pub length-down : (n t : ℕ) → length (down n t) ≡ n
-length-down zero t = refl
-length-down (suc n) t = ap suc (length-down n (t - 1))
-
-pub down-at : (n t i : ℕ) → i < n → down n t ! i ≡ t - i
-down-at zero t i h = absurd (omega arith)
-down-at (suc n) t zero h = omega arith
-down-at (suc n) t (suc i) h = down-at n (t - 1) i (omega arith) ∙ omega arith
-
--- w zeros, then w, w + 1, ..
-pub counted : (w m n x : ℕ) → w ≤ x → x < w + m → (replicate w 0 ++ count m n) ! x ≡ n + (x - w)
-counted zero m n x h l = count-at m n x (omega arith) ∙ omega arith
-counted (suc w) m n zero h l = absurd (omega arith)
-counted (suc w) m n (suc x) h l = counted w m n x (omega arith) (omega arith) ∙ omega arith
-
-pub padded : (rs : List ℕ) (m i : ℕ) → length rs ≤ i → (rs ++ replicate m 0) ! i ≡ 0
-padded [] m i h = zeros-at m i
-padded (r ∷ rs) m zero h = absurd (omega arith)
-padded (r ∷ rs) m (suc i) h = padded rs m i (omega arith)
 
 -- storing at p what stands at n leaves n's word alone
 pub keeps : (l : List ℕ) (p n : ℕ) → set l p (l ! n) ! n ≡ l ! n

@@ -1,9 +1,5 @@
 -- A refusal's number says which refusal it is, and is not the number of an answer that is fine.
-use mathlib.Core.Path.{_≡_, refl, sym, ap, _∙_}
-use mathlib.Core.List.{List, [], _∷_}
-use Prim.Native.Nat.{ℕ, _<_}
-use native.Mathlib.Omega.{arith}
-use lib.ListN.{getD}
+use Rattle.promises.proofs.Prelude.{_≡_, refl, _∙_, sym, ap, List, [], _∷_, ℕ, _<_, arith, getD}
 use Rattle.rules.specs.Answers.{numberOf, Answer, fine, refused}
 use Rattle.rules.specs.declared.Refusal.{Refusal}
 use Rattle.rules.specs.declared.Refusal.the-variants.{Size, Count, Id, Twice, Damaged, Full, Absent, Last, Room, Form}
@@ -11,33 +7,24 @@ use Rattle.rules.specs.declared.Refusal.the-variants.{Size, Count, Id, T
 refusals : List Refusal
 refusals = Size ∷ Size ∷ Count ∷ Id ∷ Twice ∷ Damaged ∷ Full ∷ Absent ∷ Last ∷ Room ∷ Form ∷ []
 
-named : (r : Refusal) → getD refusals (numberOf r) Size ≡ r
+named : (r : Refusal) → (getD refusals (numberOf r) Size ≡ r) × (0 < numberOf r)
 unfolding refusals
-named Size = refl
-named Count = refl
-named Id = refl
-named Twice = refl
-named Damaged = refl
-named Full = refl
-named Absent = refl
-named Last = refl
-named Room = refl
-named Form = refl
+named Size = (refl, omega arith)
+named Count = (refl, omega arith)
+named Id = (refl, omega arith)
+named Twice = (refl, omega arith)
+named Damaged = (refl, omega arith)
+named Full = (refl, omega arith)
+named Absent = (refl, omega arith)
+named Last = (refl, omega arith)
+named Room = (refl, omega arith)
+named Form = (refl, omega arith)
 
 pub numberOf-injective : (p q : Refusal) → numberOf p ≡ numberOf q → p ≡ q
-numberOf-injective p q h = sym (named p) ∙ ap (λ (n : ℕ). getD refusals n Size) h ∙ named q
+numberOf-injective p q h = sym (named p .0) ∙ ap (λ (n : ℕ). getD refusals n Size) h ∙ named q .0
 
 pub numberOf-positive : (r : Refusal) → 0 < numberOf r
-numberOf-positive Size = omega arith
-numberOf-positive Count = omega arith
-numberOf-positive Id = omega arith
-numberOf-positive Twice = omega arith
-numberOf-positive Damaged = omega arith
-numberOf-positive Full = omega arith
-numberOf-positive Absent = omega arith
-numberOf-positive Last = omega arith
-numberOf-positive Room = omega arith
-numberOf-positive Form = omega arith
+numberOf-positive r = named r .1
 
 -- so an answer says whether it refuses, and why
 number-same : {x y : Answer} → x ≡ y → x .number ≡ y .number

@@ -1,10 +1,6 @@
 -- The one law of `firstThat`: it answers the first refusal that applies, or what is done where none does. So an answer that is no refusal
 -- tells that none applied.
-use mathlib.Core.Path.{_≡_, refl, ap, _∙_}
-use mathlib.Core.Bool.{Bool, true, false}
-use mathlib.Core.List.{List, [], _∷_}
-use mathlib.Core.Logic.{_⊎_, inl, inr}
-use Prim.Native.Nat.{ℕ}
+use Rattle.promises.proofs.Prelude.{_≡_, refl, _∙_, ap, inl, inr, _⊎_, true, false, Bool, List, [], _∷_, ℕ}
 use Rattle.promises.proofs.Decided.{true-or-false}
 use Rattle.rules.specs.Answers.{Outcome, refusedAt, done, Occasion, _⇒_, firstThat, Free, none, more}
 use Rattle.rules.specs.declared.Refusal.{Refusal}

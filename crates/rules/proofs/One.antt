@@ -1,7 +1,5 @@
 -- Where answers tell results apart, a promise of answers leaves one outcome.
-use mathlib.Core.Path.{_≡_, sym, ap, _∙_}
-use mathlib.Core.List.{List, [], _∷_}
-use Prim.Native.Nat.{ℕ}
+use Rattle.promises.proofs.Prelude.{_≡_, _∙_, sym, ap, List, [], _∷_, ℕ}
 use Rattle.promises.specs.One.{One}
 use Rattle.promises.proofs.One.{one-read}
 use Rattle.rules.specs.Answers.{Answer, fine, refused, Outcome, outcome, Says, Results}

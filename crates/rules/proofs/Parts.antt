@@ -1,12 +1,11 @@
 -- A part of a run that is lent and comes back; a run made of parts of one length.
-use mathlib.Core.Path.{_≡_, refl, sym, ap, ap₂, _∙_}
-use mathlib.Core.List.{List, [], _∷_, _++_, append-assoc}
-use Prim.Native.Nat.{ℕ, zero, suc, _+_, _*_, _-_, _<_, _≤_}
-use native.Mathlib.Nat.{suc-mul, zero-mul, suc-add, zero-add}
-use native.Mathlib.Omega.{arith}
-use lib.ListN.{length, take, drop, getD, set, length-append, length-take, length-drop, length-set, take-append-drop}
-use lib.Seq.{set-append-left, length-take-le, take-at, drop-at, take-append-add, drop-append-add}
+use Rattle.promises.proofs.Prelude.{_≡_, refl, _∙_, sym, ap, ap₂, List, [], _∷_, _++_, append-assoc, ℕ, _-_, _≤_, _<_, _+_, suc, zero, _*_, zero-add, arith}
+use Rattle.promises.proofs.Prelude.{length, drop, set, length-append, length-set, take, length-drop, take-append-drop, getD, length-take, length-take-le}
+use Rattle.promises.proofs.Prelude.{take-at}
+use native.Mathlib.Nat.{suc-mul, zero-mul, suc-add}
+use lib.Seq.{set-append-left, drop-at, take-append-add, drop-append-add}
 use Rattle.rules.specs.Table.{joined}
+use Rattle.rules.specs.Runs.{All, none, more}
 
 -- a store past the first list
 pub set-append-add : (xs ys : List ℕ) (n v : ℕ) → set (xs ++ ys) (length xs + n) v ≡ xs ++ set ys n v
@@ -29,11 +28,6 @@ pub part-put : (w ys : List ℕ) (lo a i v : ℕ) → ys ≡ set (take (lo + a -
 part-put w ys lo a i v e hi hk =
     ap (λ (l : List ℕ). take lo w ++ (l ++ drop (lo + a - lo) (drop lo w))) e
     ∙ part-set w lo (lo + a - lo) i v (omega arith) (omega arith)
-
--- every list of ps has n elements
-pub data All : ℕ → List (List ℕ) → Type 0 where
-  none : {n : ℕ} → All n []
-  more : {n : ℕ} {p : List ℕ} {ps : List (List ℕ)} → length p ≡ n → All n ps → All n (p ∷ ps)
 
 offset : {n : ℕ} (p : List ℕ) (k i : ℕ) → length p ≡ n → suc k * n + i ≡ length p + (k * n + i)
 offset {n} p k i e = omega (arith, suc-mul k n)

@@ -1,10 +1,6 @@
 -- Seating undoes taking out: each word that taking b out wrote is written again, with what stood there before. L[W[N]] is one of them.
-use mathlib.Core.Path.{_≡_, ap, ap₂, _∙_}
-use mathlib.Core.List.{List}
-use Prim.Native.Nat.{ℕ, _+_, _-_, _≤_}
-use native.Mathlib.Omega.{arith}
-use lib.ListN.{length, set}
-use lib.Seq.{getD-set-same, set-set}
+use Rattle.promises.proofs.Prelude.{_≡_, _∙_, ap, ap₂, List, ℕ, _-_, _≤_, _+_, arith, length, set, getD-set-same}
+use lib.Seq.{set-set}
 use Rattle.rules.specs.Table.{_!_, Bare, Table, withBare, withIds}
 use Rattle.rules.specs.Changes.{out, seat, lastOut, takeOut, seatId}
 use Rattle.rules.proofs.Lists.{keeps, set-back}

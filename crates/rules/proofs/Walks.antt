@@ -1,12 +1,6 @@
 -- Walks along K for m, which follow while A is m or more: a law for each way that a walk ends or goes on.
-use mathlib.Core.Path.{_≡_, refl}
-use mathlib.Core.Bool.{Bool, true, false}
-use mathlib.Core.List.{List}
-use Prim.Native.Nat.{ℕ, zero, suc, _<_, _≤_}
-use native.Mathlib.Omega.{arith}
-use lib.ListN.{length}
-use lib.Dec.{ltb}
-use borrow.Author.Tests.{ltb-true, ltb-false, lt-ltb, le-ltb}
+use Rattle.promises.proofs.Prelude.{_≡_, refl, true, false, Bool, List, ℕ, _≤_, _<_, suc, zero, arith, length, ltb, le-ltb, lt-ltb}
+use borrow.Author.Tests.{ltb-true, ltb-false}
 use Rattle.rules.specs.Table.{_!_}
 use Rattle.rules.specs.Keys.{on, found, Walk, at, lost, step, walk, lookup}
 

@@ -1,18 +1,15 @@
 -- A table and its run of words: each reads back as the other, and a store into a part is a store into the run.
-use mathlib.Core.Path.{_≡_, refl, sym, ap, ap₂, _∙_, subst}
-use mathlib.Core.Bool.{true, _&&_}
-use mathlib.Core.List.{List, [], _∷_, _++_, append-nil, append-assoc}
-use Prim.Native.Nat.{ℕ, zero, suc, _+_, _*_, _-_, _<_, _≤_}
+use Rattle.promises.proofs.Prelude.{_≡_, refl, _∙_, sym, ap, subst, ap₂, true, _&&_, List, [], _∷_, _++_, append-nil, append-assoc, ℕ, _-_, _≤_, _<_, _+_, suc}
+use Rattle.promises.proofs.Prelude.{zero, _*_, arith, length, drop, set, length-set, take, length-drop, drop-of-length-le, take-append-drop, getD, length-take}
+use Rattle.promises.proofs.Prelude.{drop-drop, getD-take, eqb, eq-eqb, le-leb, eqb-true}
 use native.Mathlib.Nat.{mul-le-mul-right, suc-mul, min-eq-left}
-use native.Mathlib.Omega.{arith}
-use lib.ListN.{length, take, drop, getD, set, length-take, length-drop, length-set, take-append-drop, drop-of-length-le}
-use lib.Seq.{drop-drop, getD-take, getD-drop, set-append-left, take-append-add, drop-append-add}
-use lib.Dec.{leb, eqb}
-use borrow.Author.Tests.{eq-eqb, le-leb, leb-true, eqb-true}
+use lib.Seq.{getD-drop, set-append-left, take-append-add, drop-append-add}
+use lib.Dec.{leb}
+use borrow.Author.Tests.{leb-true}
 use Rattle.promises.proofs.Decided.{both}
 use Rattle.rules.specs.Table.{_!_, Table, head, parts, front, partCount, joined, words, base, runLength, mostSeats, part, tableFor, tableOf, legal}
-use Rattle.rules.specs.Runs.{Legal}
-use Rattle.rules.proofs.Parts.{All, none, more, set-append-add, set-joined, part-joined, All-set, length-joined, joined-with, All-with}
+use Rattle.rules.specs.Runs.{Legal, All, none, more, Holds}
+use Rattle.rules.proofs.Parts.{set-append-add, set-joined, part-joined, All-set, length-joined, joined-with, All-with}
 
 -- a run of legal shape
 pub is-legal : (w : List ℕ) → legal w ≡ true → Legal w (w ! 0)
@@ -69,12 +66,6 @@ words-tableOf w size =
 
 pub sized-tableOf : (w : List ℕ) → length w ≡ runLength (w ! 0) → All (w ! 0) (parts (tableOf w))
 sized-tableOf w size = sized-slices w (w ! 0) partCount 0 (omega arith)
-
--- the run w holds the head h and the parts ps, each of a words
-pub record Holds (w h : List ℕ) (a : ℕ) (ps : List (List ℕ)) : Type 0 where
-  pub is : w ≡ h ++ joined ps
-  pub fronts : length h ≡ front
-  pub sized : All a ps
 
 pub holds-words : (T : Table) (a : ℕ) → All a (parts T) → Holds (words T) (head T) a (parts T)
 holds-words T a all = record { is = refl; fronts = refl; sized = all }

@@ -1,9 +1,6 @@
 -- Document 01's examples hold: the definitions compute what it says, of histories that it accepts.
-use mathlib.Core.Path.{_≡_, refl}
-use mathlib.Core.Bool.{true, false}
-use mathlib.Core.List.{List, [], _∷_, _++_, map}
-use Prim.Native.Nat.{ℕ, _≤_}
-use native.Mathlib.Omega.{arith}
+use Rattle.promises.proofs.Prelude.{_≡_, refl, true, false, List, [], _∷_, _++_, ℕ, _≤_, arith}
+use mathlib.Core.List.{map}
 use Rattle.rules.specs.Table.{Table, mostSeats}
 use Rattle.rules.specs.Changes.{count, opened, takeOut}
 use Rattle.rules.specs.Ids.{occurs, repeats, placeOf}

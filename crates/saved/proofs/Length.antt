@@ -1,7 +1,5 @@
 -- A record is as long as document 01 says, since as many seats have A = 0 as are in use.
-use mathlib.Core.Path.{_≡_, _∙_}
-use Prim.Native.Nat.{ℕ, _-_}
-use native.Mathlib.Omega.{arith}
+use Rattle.promises.proofs.Prelude.{_≡_, _∙_, ℕ, _-_, arith}
 use Rattle.sound.proofs.Reached.{passes}
 use Rattle.fields.specs.Form.{formFor, inAt}
 use Rattle.fields.proofs.Places.{out-is, in-is}

@@ -1,26 +1,17 @@
 -- How many seats are in use below a seat. Taking one seat out makes one less of them, so after k removals a - k of a are left.
-use mathlib.Core.Path.{_≡_, refl, sym, ap, ap₂, _∙_}
-use mathlib.Core.Bool.{Bool, true, false, cond}
-use mathlib.Core.List.{List, []}
-use mathlib.Core.Logic.{_≢_}
-use Prim.Native.Nat.{ℕ, zero, suc, _+_, _-_, _<_, _≤_}
-use native.Mathlib.Nat.{add-zero}
-use native.Mathlib.Numerals.{add-one}
-use native.Mathlib.Omega.{arith}
-use native.Mathlib.Decide.{ℕ-discrete}
-use lib.ListN.{length, set, replicate, length-append}
-use lib.Seq.{getD-set-same, getD-set-other}
-use lib.Dec.{eqb}
-use borrow.Author.Tests.{eq-eqb, ne-eqb}
+use Rattle.promises.proofs.Prelude.{_≡_, refl, _∙_, ap, _≢_, List, ℕ, _-_, _≤_, _<_, _+_, suc, zero, add-zero, add-one, arith, ℕ-discrete, length, set}
+use Rattle.promises.proofs.Prelude.{length-append, replicate, getD-set-same, getD-set-other, ne-eqb, eq-eqb}
+use mathlib.Core.Logic.{_↔_}
 use Rattle.rules.specs.Table.{_!_, Bare, Table}
 use Rattle.rules.proofs.Lists.{not-apart, zeros-at}
-use Rattle.sound.specs.Canonical.{after, Takeable}
+use Rattle.sound.specs.Removals.{after, Takeable}
 use Rattle.sound.specs.Test.{Test}
 use Rattle.sound.proofs.Made.{after-is, fewer-still, next-leaves}
 use Rattle.sound.proofs.Audit.{R-takeable, as-made}
 use Rattle.fields.specs.declared.Form.{Form}
 use Rattle.fields.specs.Form.{inLength, outAt, inAt}
 use Rattle.fields.proofs.Numbers.{length-bytes}
+use Rattle.fields.proofs.Places.{in-within}
 use Rattle.saved.specs.Record.{inRecord, each, seatRecord}
 use Rattle.saved.specs.Reader.{rank}
 
@@ -31,12 +22,14 @@ module _ (A : List ℕ) (b : ℕ) where
   pub rank-out : A ! b ≢ 0 → rank A (suc b) ≡ rank A b
   rank-out ne = rw (ne-eqb (A ! b) 0 ne) (omega arith)
 
-pub rank-same : (A F : List ℕ) (n : ℕ) → ((x : ℕ) → x < n → eqb (A ! x) 0 ≡ eqb (F ! x) 0) → rank A n ≡ rank F n
+pub rank-same : (A F : List ℕ) (n : ℕ) → ((x : ℕ) → x < n → (A ! x ≡ 0) ↔ (F ! x ≡ 0)) → rank A n ≡ rank F n
 rank-same A F zero h = refl
-rank-same A F (suc n) h = ap₂ (λ (r : ℕ) (t : Bool). r + cond t 1 0) (rank-same A F n (λ x l. h x (omega arith))) (h n (omega arith))
-
-rank-grows : (A : List ℕ) (n : ℕ) → rank A n ≤ rank A (suc n)
-rank-grows A n = omega arith
+rank-same A F (suc n) h =
+    let before = rank-same A F n (λ x l. h x (omega arith)) in
+    elim (ℕ-discrete (A ! n) 0) [
+      | yes z ↦ omega (arith, rank-used A n z, rank-used F n (h n (omega arith) .0 z))
+      | no ne ↦ omega (arith, rank-out A n ne, rank-out F n (λ z. ne (h n (omega arith) .1 z)))
+    ]
 
 pub rank-most : (A : List ℕ) (n : ℕ) → rank A n ≤ n
 rank-most A zero = omega arith
@@ -45,19 +38,12 @@ rank-most A (suc n) = elim (ℕ-discrete (A ! n) 0) [
   | no ne ↦ omega (arith, rank-out A n ne, rank-most A n)
 ]
 
-pub rank-mono : (A : List ℕ) (n b : ℕ) → b ≤ n → rank A b ≤ rank A n
-rank-mono A zero b h = let e : b ≡ 0 = omega arith in rw e (omega arith)
-rank-mono A (suc n) b h = elim (ℕ-discrete b (suc n)) [
-  | yes e ↦ rw e (omega arith)
-  | no ne ↦ omega (arith, rank-mono A n b (omega arith), rank-grows A n)
-]
-
 -- a seat in use counts for every seat after it
 pub rank-below : (A : List ℕ) (n b : ℕ) → b < n → A ! b ≡ 0 → rank A b < rank A n
 rank-below A zero b h z = absurd (omega arith)
 rank-below A (suc n) b h z = elim (ℕ-discrete b n) [
   | yes e ↦ let u = rank-used A b z in rw (← e) (omega arith)
-  | no ne ↦ omega (arith, rank-below A n b (omega arith) z, rank-grows A n)
+  | no ne ↦ omega (arith, rank-below A n b (omega arith) z)
 ]
 
 -- so two seats in use with as many below them are the same
@@ -81,15 +67,13 @@ rank-full a (suc n) = rank-used (replicate a 0) n (zeros-at a n) ∙ ap suc (ran
 
 module _ (A : List ℕ) (b v : ℕ) (h : b < length A) (z : A ! b ≡ 0) (ne : v ≢ 0) where
   rank-before : (n : ℕ) → n ≤ b → rank (set A b v) n ≡ rank A n
-  rank-before n l = rank-same (set A b v) A n (λ x k. ap (λ (y : ℕ). eqb y 0) (getD-set-other A b x v 0 (omega arith)))
+  rank-before n l = rank-same (set A b v) A n (λ x k. rw (getD-set-other A b x v 0 (omega arith)) (λ z. z, λ z. z))
 
   rank-set : (n : ℕ) → b < n → suc (rank (set A b v) n) ≡ rank A n
   rank-set zero l = absurd (omega arith)
   rank-set (suc n) l = elim (ℕ-discrete b n) [
-    | yes e ↦
-        ap suc (rank-out (set A b v) n (λ q. ne (sym (getD-set-same A b v 0 h) ∙ ap (λ (x : ℕ). set A b v ! x) e ∙ q)) ∙ rank-before n (omega arith))
-        ∙ sym (rank-used A n (ap (λ (x : ℕ). A ! x) (sym e) ∙ z))
-    | no other ↦ omega (arith, rank-set n (omega arith), ap {B = ℕ} (λ (y : ℕ). cond (eqb y 0) 1 0) (getD-set-other A b n v 0 (λ q. other (sym q))))
+    | yes e ↦ rw (← e) (omega (arith, rank-out (set A b v) b (rw (getD-set-same A b v 0 h) ne), rank-before b (omega arith), rank-used A b z))
+    | no other ↦ rw (getD-set-other A b n v 0 (omega arith)) (omega (arith, rank-set n (omega arith)))
   ]
 
 pub rank-after : (a : ℕ) (rs : List ℕ) (k : ℕ) → Takeable a rs k → rank (after a rs k .A) a ≡ a - k
@@ -112,15 +96,17 @@ module _ (f : Form) where
   pub length-in : (b id : ℕ) → length (inRecord f b id) ≡ inLength f
   length-in b id = simp (length-append, length-bytes) (omega arith)
 
+  -- the record of a seat in use ends within those of all seats
+  pub seat-within : (A : List ℕ) (m n b : ℕ) → b < n → A ! b ≡ 0 → inAt f m (rank A b) + inLength f ≤ inAt f m (rank A n)
+  seat-within A m n b h z = in-within f m (rank A b) (rank A n) (rank-below A n b h z)
+
   -- the records of the seats below b end where the next seat in use has its own
   pub seats-end : (T : Table) (m b : ℕ) → outAt f m + length (each (seatRecord f T) b) ≡ inAt f m (rank (T .bare .A) b)
   seats-end T m zero = add-zero (outAt f m)
   seats-end T m (suc b) =
-      omega (arith, length-append (each (seatRecord f T) b) (seatRecord f T b), seats-end T m b) ∙ one (eqb (T .bare .A ! b) 0)
-    where
-      r : ℕ
-      r = rank (T .bare .A) b
-
-      one : (t : Bool) → inAt f m r + length (cond t (inRecord f b (T .S ! b)) []) ≡ inAt f m (r + cond t 1 0)
-      one true = ap (λ (n : ℕ). inAt f m r + n) (length-in b (T .S ! b)) ∙ ap (inAt f m) (sym (add-one r))
-      one false = add-zero (inAt f m r) ∙ ap (inAt f m) (sym (add-zero r))
+      let before = seats-end T m b in
+      rw (length-append (each (seatRecord f T) b) (seatRecord f T b))
+      (elim (ℕ-discrete (T .bare .A ! b) 0) [
+        | yes z ↦ rw (eq-eqb (T .bare .A ! b) 0 z, length-in, add-one) (omega arith)
+        | no ne ↦ rw (ne-eqb (T .bare .A ! b) 0 ne, add-zero (rank (T .bare .A) b)) (omega arith)
+      ])

@@ -8,7 +8,7 @@ use Rattle.rules.specs.Table.{_!_, mostSeats}
 use Rattle.rules.specs.Changes.{Leaves}
 use Rattle.fields.specs.Numbers.{numberAt, Stands}
 use Rattle.fields.specs.declared.Form.{Form}
-use Rattle.fields.specs.Form.{headMark, field, formFor, outMark, inMark, outAt, inAt}
+use Rattle.fields.specs.Form.{headMark, field, formFor, outMark, inMark, markLength, serverLength, outLength, outAt, inAt}
 use Rattle.saved.specs.Reader.{rank, seatsIn, usedIn, leftAt, serverAt, bareFrom}
 
 module _ (f : Form) (s : List ℕ) where
@@ -30,8 +30,8 @@ module _ (f : Form) (s : List ℕ) where
   -- a record of seat b stands at `at`
   pub record InFits (at b : ℕ) : Type 0 where
     pub mark : Stands s at inMark
-    pub own : numberAt s (at + 2) (field f) ≡ b
-    pub some : numberAt s (at + (2 + field f)) 4 ≢ 0
+    pub own : numberAt s (at + markLength) (field f) ≡ b
+    pub some : numberAt s (at + outLength f) serverLength ≢ 0
 
   abbrev pub AllOut : ℕ → ℕ → ℕ → Type 0
   AllOut a m n = (i : ℕ) → i < n → OutFits a m i

@@ -19,7 +19,7 @@ use Rattle.rules.specs.Table.{_!_, Table}
 use Rattle.rules.specs.History.{Reached}
 use Rattle.fields.specs.Numbers.{bytes}
 use Rattle.fields.specs.declared.Form.{Form}
-use Rattle.fields.specs.Form.{headMark, field, formFor, outMark, inMark}
+use Rattle.fields.specs.Form.{headMark, field, formFor, outMark, inMark, serverLength}
 
 abbrev pub headRecord : Form → ℕ → ℕ → List ℕ
 headRecord f a N = headMark f ++ (bytes (field f) a ++ bytes (field f) N)
@@ -28,7 +28,7 @@ abbrev pub outRecord : Form → ℕ → List ℕ
 outRecord f b = outMark ++ bytes (field f) b
 
 abbrev pub inRecord : Form → ℕ → ℕ → List ℕ
-inRecord f b id = inMark ++ (bytes (field f) b ++ bytes 4 id)
+inRecord f b id = inMark ++ (bytes (field f) b ++ bytes serverLength id)
 
 -- f 0, f 1, .., f (n - 1), one after the other
 abbrev pub each : (ℕ → List ℕ) → ℕ → List ℕ

@@ -1,35 +1,42 @@
--- The test is exact: a table passes it if and only if it is made by taking out, in order, the seats that its R has first.
+-- A table that passes the test is made by taking out, in order, the seats that its R has first. (That what is so made passes is `made-passes`.)
 -- Why: before each removal, every seat x at position q of the true line owes q. At first each seat owes its own number.
 -- When b goes from position q, L[b] = q since b owes q; and the seat at the end of the line is W's, since it owes that
 -- place, and owes q next, by the test. At the end the seats in use owe where they stand, which is W and L.
-use mathlib.Core.Path.{_≡_, sym, ap, _∙_, subst}
-use mathlib.Core.Logic.{_≢_, _↔_, inl, inr}
-use Prim.Native.Nat.{ℕ, zero, suc, _-_, _<_, _≤_, max}
-use native.Mathlib.Omega.{arith}
-use native.Mathlib.Decide.{ℕ-discrete, decLt}
-use native.Mathlib.Nat.{zero-add}
-use lib.ListN.{length, take}
-use lib.Seq.{ext-getD, getD-take, length-take-le}
+use Rattle.promises.proofs.Prelude.{_≡_, _∙_, sym, ap, subst, _≢_, ℕ, _-_, _≤_, _<_, suc, zero, zero-add, arith, ℕ-discrete, decLt}
+use Prim.Native.Nat.{max}
+use lib.ListN.{List·getD-eq-default}
+use lib.Seq.{ext-getD}
 use Rattle.rules.specs.Table.{Bare, _!_}
 use Rattle.rules.specs.Changes.{out}
 use Rattle.sound.specs.Kept.{Order}
-use Rattle.sound.specs.Canonical.{after, Takeable, Canonical}
-use Rattle.sound.specs.Test.{Owes, gone, stays, Cut, stood, moved, Test}
+use Rattle.sound.specs.Removals.{after, Takeable}
+use Rattle.sound.specs.Test.{Owes, gone, stays, Moved, Removed, Test}
 use Rattle.rules.proofs.Lists.{differ, count-at, zeros-at}
 use Rattle.sound.proofs.Written.{Written, written}
-use Rattle.sound.proofs.Made.{fewer-still, After, after-is, next-leaves, after-first}
-use Rattle.sound.proofs.Passes.{made-passes}
+use Rattle.sound.proofs.Made.{fewer-still, After, after-is, next-leaves}
+
+-- the test's order, over all indices
+pub order : {F : Bare} → Test F → Order F
+order {F} t =
+    record {
+      taken = λ i h. let r = t .removal i (omega arith) .taken h in (r .below, r .dated);
+      rest = λ i h. elim (decLt i (F .seats)) [ yes l ↦ t .removal i l .rest h | no l ↦ List·getD-eq-default (F .R) 0 (omega arith) ];
+      each = λ x h. t .seat x h .out;
+    }
 
 pub R-takeable : (F : Bare) → Test F → Takeable (F .seats) (F .R) (F .seats - F .used)
 R-takeable F t =
     record {
       fewer = omega arith;
-      below = λ i h. t .order .taken i h .0;
-      apart = λ i j h l e. omega (arith, t .order .taken i (omega arith), t .order .taken j l, ap (λ (x : ℕ). F .A ! x) e);
+      below = λ i h. order t .taken i h .0;
+      apart = λ i j h l e. omega (arith, order t .taken i (omega arith), order t .taken j l, ap (λ (x : ℕ). F .A ! x) e);
     }
 
 beyond : {j k : ℕ} → (j < k → ⊥) → j ≢ k → k < j
 beyond l e = omega arith
+
+earlier : {a k x n : ℕ} → x < a → k < a - 1 - x → n ≡ a - k → x < n - 1
+earlier h l e = omega arith
 
 -- what x owes, told by A
 pub owes-gone : {F : Bare} {x q : ℕ} → Owes F x q → max q 1 ≤ F .A ! x → F .L ! x ≡ q
@@ -54,12 +61,15 @@ module _ (F : Bare) (t : Test F) (k : ℕ) (h : k < F .seats - F .used) (T : Bar
   abbrev T′ : Bare
   T′ = out T b
 
+  r : Removed F k b
+  r = t .removal k (omega arith) .taken h
+
   -- b leaves now
   F-A-b : F .A ! b ≡ T .used - 1
-  F-A-b = t .order .taken k h .1 ∙ omega arith
+  F-A-b = r .dated ∙ omega arith
 
-  cut-b : Cut F (T .used - 1) b
-  cut-b = subst (λ (p : ℕ). Cut F p b) (omega arith) (t .cut k h)
+  moved : F .W ! (T .used - 1) ≢ b → Moved F (T .used - 1) b
+  moved = subst (λ (p : ℕ). F .W ! p ≢ b → Moved F p b) (omega arith) (r .moved)
 
   -- so its place is L's
   F-L-b : F .L ! b ≡ w .position
@@ -73,20 +83,19 @@ module _ (F : Bare) (t : Test F) (k : ℕ) (h : k < F .seats - F .used) (T : Bar
 
   -- the last seat of the line leaves later, or never
   later : w .last ≢ b → F .A ! w .last < T .used - 1
-  later ne = elim (t .order .each (w .last) (omega arith)) [
-    | inl z ↦ omega arith
-    | inr o ↦
-        let j = F .seats - 1 - F .A ! w .last in
-        let after-k : k < j = beyond (λ l. left-before j l (cc)) (λ e. ne (cc)) in
-        omega arith
+  later ne = elim (ℕ-discrete (F .A ! w .last) 0) [
+    | yes z ↦ omega arith
+    | no nz ↦
+        let o = t .seat (w .last) (omega arith) .out nz in
+        earlier (o .1) (beyond (λ l. left-before _ l (cc)) (λ e. ne (cc))) (d .used)
   ]
 
   -- so it is W's
   F-W-last : F .W ! (T .used - 1) ≡ w .last
   F-W-last = elim (ℕ-discrete (w .last) b) [
-    | yes e ↦ elim cut-b [
-      | stood k ↦ k ∙ sym e
-      | moved p under o ↦ absurd (omega (arith, F-L-b, ap (λ (x : ℕ). T .L ! x) e))
+    | yes e ↦ elim (ℕ-discrete (F .W ! (T .used - 1)) b) [
+      | yes k ↦ k ∙ sym e
+      | no nk ↦ let m = moved nk in absurd (omega (arith, F-L-b, ap (λ (x : ℕ). T .L ! x) e))
     ]
     | no ne ↦
         let o : Owes F (w .last) (T .used - 1) = rw (w .isLast) at (g .owes (T .used - 1) (omega arith)) in
@@ -96,10 +105,7 @@ module _ (F : Bare) (t : Test F) (k : ℕ) (h : k < F .seats - F .used) (T : Bar
 
   -- and owes the place that it takes
   last-owes : w .last ≢ b → Owes F (w .last) (w .position)
-  last-owes ne = elim cut-b [
-    | stood k ↦ absurd (ne (cc F-W-last))
-    | moved p under o ↦ rw (F-W-last, F-L-b) at o
-  ]
+  last-owes ne = rw (F-W-last, F-L-b) at (moved (rw F-W-last ne) .owes)
 
   agrees′ : Agrees F T′
   agrees′ =
@@ -115,7 +121,7 @@ module _ (F : Bare) (t : Test F) (k : ℕ) (h : k < F .seats - F .used) (T : Bar
           | no ne ↦ w .W-off p (omega arith) ∙ g .cutW p (omega arith) m
         ];
         outK = λ x o. elim (ℕ-discrete x b) [
-          | yes e ↦ rw e (w .K-at ∙ sym F-W-last ∙ ap (λ (p : ℕ). F .W ! p) (omega arith) ∙ sym (t .lastK k h))
+          | yes e ↦ rw e (w .K-at ∙ sym F-W-last ∙ ap (λ (p : ℕ). F .W ! p) (omega arith) ∙ sym (r .lastK))
           | no ne ↦ w .K-off x ne ∙ g .outK x (rw (w .A-off x ne) at o)
         ];
         outL = λ x o. elim (ℕ-discrete x b) [
@@ -130,7 +136,7 @@ agrees-after : (F : Bare) (t : Test F) (k : ℕ) → k ≤ F .seats - F .used �
 unfolding after
 agrees-after F t zero h =
     record {
-      owes = λ q l. rw (count-at (F .seats) 0 q l, zero-add q) (t .start q l);
+      owes = λ q l. rw (count-at (F .seats) 0 q l, zero-add q) (t .seat q l .start);
       cutW = λ p l m. absurd (omega arith);
       outK = λ x o. absurd (o (zeros-at (F .seats) x));
       outL = λ x o. absurd (o (zeros-at (F .seats) x));
@@ -153,15 +159,20 @@ module _ (F : Bare) (t : Test F) (T : Bare) (d : After (F .seats) (F .R) (F .sea
   same-R : (i : ℕ) → T .R ! i ≡ F .R ! i
   same-R i = elim (decLt i (F .seats - F .used)) [
     | yes h ↦ d .left i h
-    | no h ↦ d .kept .order .rest i (omega (arith, used)) ∙ sym (t .order .rest i (omega arith))
+    | no h ↦ d .kept .order .rest i (omega (arith, used)) ∙ sym (order t .rest i (omega arith))
   ]
 
   same-A : (x : ℕ) → x < F .seats → T .A ! x ≡ F .A ! x
-  same-A x h = elim (t .order .each x h) [
-    | inr o ↦ dated T (d .kept .order) x (F .A ! x) (omega (arith, used)) (omega arith) (same-R _ ∙ ap (λ (n : ℕ). F .R ! (n - 1 - F .A ! x)) (d .seats) ∙ o .2)
-    | inl z ↦ elim (d .kept .order .each x (omega arith)) [
-      | inl y ↦ y ∙ sym z
-      | inr o ↦ sym (dated F (t .order) x (T .A ! x) (omega (arith, used)) (omega arith) (sym (same-R _) ∙ ap (λ (n : ℕ). T .R ! (n - 1 - T .A ! x)) (sym (d .seats)) ∙ o .2))
+  same-A x h = elim (ℕ-discrete (F .A ! x) 0) [
+    | no ne ↦
+        let o = t .seat x h .out ne in
+        dated T (d .kept .order) x (F .A ! x) (omega (arith, used)) (omega arith) (same-R _ ∙ ap (λ (n : ℕ). F .R ! (n - 1 - F .A ! x)) (d .seats) ∙ o .2)
+    | yes z ↦ elim (ℕ-discrete (T .A ! x) 0) [
+      | yes y ↦ y ∙ sym z
+      | no ne ↦
+          let o = d .kept .order .each x (omega arith) ne in
+          sym (dated F (order t) x (T .A ! x) (omega (arith, used)) (omega arith)
+          (sym (same-R _) ∙ ap (λ (n : ℕ). T .R ! (n - 1 - T .A ! x)) (sym (d .seats)) ∙ o .2))
     ]
   ]
 
@@ -184,7 +195,7 @@ module _ (F : Bare) (t : Test F) (T : Bare) (d : After (F .seats) (F .R) (F .sea
 
   same-K : (x : ℕ) → x < F .seats → T .K ! x ≡ F .K ! x
   same-K x h = elim (ℕ-discrete (T .A ! x) 0) [
-    | yes z ↦ d .kept .seated x (omega arith) z .0 ∙ sym (t .ownK x h (sym (same-A x h) ∙ z))
+    | yes z ↦ d .kept .seated x (omega arith) z .0 ∙ sym (t .seat x h .used (sym (same-A x h) ∙ z))
     | no o ↦ g .outK x o
   ]
 
@@ -208,23 +219,3 @@ as-made F t =
     let a = F .seats in
     let k = a - F .used in
     sym (same F t (after a (F .R) k) (after-is a (F .R) k (R-takeable F t)) (agrees-after F t k (omega arith)))
-
-canonical : (F : Bare) → Test F → Canonical F
-canonical F t =
-    let a = F .seats in
-    let k = a - F .used in
-    let rs = take k (F .R) in
-    let len : length rs ≡ k = length-take-le k (F .R) (omega arith) in
-    let few = R-takeable F t in
-    record {
-      rs = rs;
-      takeable = rw len (record {
-        fewer = few .fewer;
-        below = λ i h. rw (getD-take k (F .R) i 0 h) (few .below i h);
-        apart = λ i j h l. rw (getD-take k (F .R) i 0 (omega arith), getD-take k (F .R) j 0 l) (few .apart i j h l);
-      });
-      isMade = rw len (as-made F t ∙ after-first a (F .R) rs k (λ i h. sym (getD-take k (F .R) i 0 h)));
-    }
-
-pub audit : (T : Bare) → Test T ↔ Canonical T
-audit T = (canonical T, λ c. rw (c .isMade) (made-passes (T .seats) (c .rs) (length (c .rs)) (c .takeable)))

@@ -1,11 +1,6 @@
 -- Of length l + 1 numbers one does not stand in the list l: there are too few places.
-use mathlib.Core.Path.{_≡_}
-use mathlib.Core.List.{List, [], _∷_}
-use mathlib.Core.Logic.{_≢_, _⊎_, inl, inr}
-use Prim.Native.Nat.{ℕ, zero, suc, _+_, _-_, _<_, _≤_, min}
-use native.Mathlib.Omega.{arith}
-use native.Mathlib.Decide.{ℕ-discrete}
-use lib.ListN.{length}
+use Rattle.promises.proofs.Prelude.{_≡_, _≢_, inl, inr, _⊎_, List, [], _∷_, ℕ, _-_, _≤_, _<_, _+_, suc, zero, arith, ℕ-discrete, length}
+use Prim.Native.Nat.{min}
 use Rattle.rules.specs.Table.{_!_}
 
 abbrev Absent : List ℕ → ℕ → Type 0

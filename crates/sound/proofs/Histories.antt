@@ -1,7 +1,5 @@
 -- Histories grow at their end: a change that a reached table accepts leaves a reached table.
-use mathlib.Core.Path.{_≡_, refl, sym, ap, _∙_, subst}
-use mathlib.Core.List.{List, [], _∷_, _++_}
-use Prim.Native.Nat.{ℕ}
+use Rattle.promises.proofs.Prelude.{_≡_, refl, _∙_, sym, ap, subst, List, [], _∷_, _++_, ℕ}
 use Rattle.rules.specs.Table.{Table}
 use Rattle.rules.specs.Changes.{opened}
 use Rattle.rules.specs.History.{Opens, Change, Accepts, changed, run, Accepted, done, then, Reached}

@@ -1,18 +1,11 @@
 -- The ids stay good when one seat's word in A and its id change together.
-use mathlib.Core.Path.{_≡_, sym, _∙_}
-use mathlib.Core.List.{List}
-use mathlib.Core.Logic.{_≢_}
-use Prim.Native.Nat.{ℕ, _<_, _≤_}
-use native.Mathlib.Omega.{arith}
-use native.Mathlib.Decide.{ℕ-discrete}
-use lib.ListN.{length, set, length-set}
-use lib.Seq.{getD-set-same, getD-set-other}
+use Rattle.promises.proofs.Prelude.{_≡_, _∙_, sym, _≢_, List, ℕ, _<_, arith, ℕ-discrete, length, set, length-set, getD-set-same, getD-set-other}
 use Rattle.rules.specs.Table.{_!_}
 use Rattle.rules.specs.History.{Id}
-use Rattle.sound.specs.Canonical.{Ids}
+use Rattle.sound.specs.Removals.{Ids}
 
-module _ (a : ℕ) (A S : List ℕ) (b n id : ℕ) (g : Ids a A S) (h : b < a) (len : length A ≡ a)
-    (out′ : 1 ≤ n → id ≡ 0) (in′ : n ≡ 0 → Id id) (new : id ≢ 0 → (x : ℕ) → x < a → S ! x ≢ id) where
+module _ {a : ℕ} {A S : List ℕ} (b n id : ℕ) (g : Ids a A S) (h : b < a) (len : length A ≡ a)
+    (out′ : n ≢ 0 → id ≡ 0) (in′ : n ≡ 0 → Id id) (new : id ≢ 0 → (x : ℕ) → x < a → S ! x ≢ id) where
   A-at : set A b n ! b ≡ n
   A-at = getD-set-same A b n 0 (omega arith)
 

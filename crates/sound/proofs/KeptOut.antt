@@ -1,10 +1,5 @@
 -- A full table keeps it, and taking a seat out does not break it.
-use mathlib.Core.Path.{_≡_, sym, ap, _∙_}
-use mathlib.Core.Logic.{_≢_, inl, inr}
-use Prim.Native.Nat.{ℕ, _-_, _<_, _≤_}
-use native.Mathlib.Omega.{arith}
-use native.Mathlib.Decide.{ℕ-discrete}
-use lib.ListN.{length-set, length-replicate}
+use Rattle.promises.proofs.Prelude.{_≡_, _∙_, sym, ap, _≢_, ℕ, _-_, _≤_, _<_, arith, ℕ-discrete, length-set, length-replicate}
 use Rattle.rules.specs.Table.{Bare, _!_}
 use Rattle.rules.specs.Changes.{out, Leaves}
 use Rattle.rules.specs.Keys.{full}
@@ -16,7 +11,7 @@ pub kept-full : (a : ℕ) → 1 ≤ a → Kept (full a)
 kept-full a h =
     record {
       shape = record { some = h; most = omega arith; lenA = length-replicate a 0; lenK = length-count a 0; lenW = length-count a 0; lenL = length-count a 0; lenR = length-replicate a 0 };
-      order = record { taken = λ i l. absurd (omega arith); rest = λ i l. zeros-at a i; each = λ x l. inl (zeros-at a x) };
+      order = record { taken = λ i l. absurd (omega arith); rest = λ i l. zeros-at a i; each = λ x l ne. absurd (ne (zeros-at a x)) };
       seated = λ x l e. rw (own-at a x l) (omega arith, omega arith, own-at a x l);
       line = λ q l. rw (own-at a q l) (omega arith, zeros-at a q, own-at a q l);
     }
@@ -43,11 +38,8 @@ module _ (T : Bare) (b : ℕ) (g : Kept T) (v : Leaves T b) (w : Written T b) wh
         ];
         rest = λ i h. w .R-off i (omega arith) ∙ g .order .rest i (omega arith);
         each = λ x h. elim (ℕ-discrete x b) [
-          | yes e ↦ rw (e, w .A-at) (inr (omega arith, omega arith, ap (λ (i : ℕ). T′ .R ! i) (omega arith) ∙ w .R-at))
-          | no ne ↦ rw (w .A-off x ne) (elim (g .order .each x h) [
-            | inl z ↦ inl z
-            | inr t ↦ inr (omega arith, t .1, w .R-off _ (omega arith) ∙ t .2)
-          ])
+          | yes e ↦ rw (e, w .A-at) (λ o. (omega arith, omega arith, ap (λ (i : ℕ). T′ .R ! i) (omega arith) ∙ w .R-at))
+          | no ne ↦ rw (w .A-off x ne) (λ o. let t = g .order .each x h o in (omega arith, t .1, w .R-off _ (omega arith) ∙ t .2))
         ];
       }
 

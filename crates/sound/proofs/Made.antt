@@ -1,18 +1,10 @@
 -- What a table is that is made by taking the seats rs out, in order, of a full one; and that seating undoes the last.
-use mathlib.Core.Path.{_≡_, refl, sym, ap, ap₂, _∙_}
-use mathlib.Core.List.{List, _++_}
-use mathlib.Core.Logic.{_≢_, inl, inr}
-use Prim.Native.Nat.{ℕ, zero, suc, _-_, _<_, _≤_}
-use native.Mathlib.Omega.{arith}
-use native.Mathlib.Decide.{ℕ-discrete, decLt}
-use lib.ListN.{length, replicate, length-append, length-replicate, length-set, List·getD-append}
-use lib.Seq.{ext-getD}
+use Rattle.promises.proofs.Prelude.{_≡_, refl, _∙_, sym, ap, ap₂, List, ℕ, _-_, _≤_, _<_, suc, zero, arith, ℕ-discrete, length, length-set, length-replicate}
 use Rattle.rules.specs.Table.{_!_, Bare}
 use Rattle.rules.specs.Changes.{out, seat, Leaves}
 use Rattle.rules.proofs.Undo.{Undoable, undo}
-use Rattle.sound.specs.Kept.{Kept, Lengths}
-use Rattle.sound.specs.Canonical.{after, made, Takeable}
-use Rattle.rules.proofs.Lists.{padded}
+use Rattle.sound.specs.Kept.{Kept}
+use Rattle.sound.specs.Removals.{after, Takeable}
 use Rattle.sound.proofs.Written.{written}
 use Rattle.sound.proofs.KeptOut.{kept-full, kept-out}
 
@@ -41,9 +33,11 @@ module _ {a : ℕ} {rs : List ℕ} {k : ℕ} {T : Bare} (t : Takeable a rs (suc 
       let below = t .below k (omega arith) in
       record {
         below = omega arith;
-        inUse = elim (d .kept .order .each (rs ! k) (omega arith)) [
-          | inl z ↦ z
-          | inr o ↦ absurd (t .apart _ k (omega arith) (omega arith) (sym (d .left _ (omega arith)) ∙ o .2))
+        inUse = elim (ℕ-discrete (T .A ! (rs ! k)) 0) [
+          | yes e ↦ e
+          | no ne ↦
+              let o = d .kept .order .each (rs ! k) (omega arith) ne in
+              absurd (t .apart _ k (omega arith) (omega arith) (sym (d .left _ (omega arith)) ∙ o .2))
         ];
         two = omega arith;
       }
@@ -87,43 +81,6 @@ pub after-first : (a : ℕ) (rs ss : List ℕ) (k : ℕ) → ((i : ℕ) → i < 
 unfolding after
 after-first a rs ss zero h = refl
 after-first a rs ss (suc k) h = ap₂ out (after-first a rs ss k (λ i l. h i (omega arith))) (h k (omega arith))
-
--- what stands in the made table
-pub record Made (a : ℕ) (rs : List ℕ) (T : Bare) : Type 0 where
-  pub seats : T .seats ≡ a
-  pub used : T .used ≡ a - length rs
-  pub shape : Lengths T
-  pub inUse : (x : ℕ) → x < a → ((i : ℕ) → i < length rs → rs ! i ≢ x) → T .A ! x ≡ 0
-  pub seated : (x : ℕ) → x < a → T .A ! x ≡ 0 → (T .K ! x ≡ x) × (T .L ! x < T .used) × (T .W ! (T .L ! x) ≡ x)
-  pub line : (p : ℕ) → p < T .used → (T .W ! p < a) × (T .A ! (T .W ! p) ≡ 0) × (T .L ! (T .W ! p) ≡ p)
-  pub isR : T .R ≡ rs ++ replicate (a - length rs) 0
-  pub isA : (i : ℕ) → i < length rs → T .A ! (rs ! i) ≡ a - 1 - i
-
-module _ (a : ℕ) (rs : List ℕ) (T : Bare) (d : After a rs (length rs) T) (few : length rs < a) where
-  R-is : (i : ℕ) → T .R ! i ≡ (rs ++ replicate (a - length rs) 0) ! i
-  R-is i = elim (decLt i (length rs)) [
-    | yes h ↦ d .left i h ∙ sym (List·getD-append rs _ 0 i h)
-    | no h ↦ d .kept .order .rest i (omega arith) ∙ sym (padded rs (a - length rs) i (omega arith))
-  ]
-
-  facts : Made a rs T
-  facts =
-      record {
-        seats = d .seats;
-        used = d .used;
-        shape = d .kept .shape;
-        inUse = λ x h ne. elim (d .kept .order .each x (omega arith)) [
-          | inl z ↦ z
-          | inr o ↦ absurd (ne _ (omega arith) (sym (d .left _ (omega arith)) ∙ o .2))
-        ];
-        seated = λ x h. d .kept .seated x (omega arith);
-        line = λ p h. let l = d .kept .line p h in (omega arith, l .1, l .2);
-        isR = ext-getD 0 (T .R) _ (simp (length-append, length-replicate) (omega arith)) (λ i h. R-is i);
-        isA = λ i h. ap (λ (x : ℕ). T .A ! x) (sym (d .left i h)) ∙ d .kept .order .taken i (omega arith) .1 ∙ omega arith;
-      }
-
-pub theorem : (a : ℕ) (rs : List ℕ) → Takeable a rs (length rs) → Made a rs (made a rs)
-theorem a rs t = facts a rs (made a rs) (after-is a rs (length rs) t) (t .fewer)
 
 -- a seat that may leave stands in the line
 pub leaves-stands : {T : Bare} {b : ℕ} → Kept T → Leaves T b → Undoable T b

@@ -1,16 +1,11 @@
 -- A made table passes the test: the full one does, and taking a seat out keeps it.
-use mathlib.Core.Path.{_≡_, sym, ap, _∙_}
-use mathlib.Core.List.{List}
-use mathlib.Core.Logic.{_≢_}
-use Prim.Native.Nat.{ℕ, zero, suc, _-_, _≤_}
-use native.Mathlib.Omega.{arith}
-use native.Mathlib.Decide.{ℕ-discrete, decLt}
+use Rattle.promises.proofs.Prelude.{_≡_, _∙_, sym, _≢_, List, ℕ, _-_, _≤_, _<_, suc, zero, arith, ℕ-discrete, decLt}
 use Rattle.rules.specs.Table.{Bare, _!_}
 use Rattle.rules.specs.Changes.{out, Leaves}
 use Rattle.rules.specs.Keys.{full}
 use Rattle.sound.specs.Kept.{Kept}
-use Rattle.sound.specs.Canonical.{after, Takeable}
-use Rattle.sound.specs.Test.{Owes, gone, stays, Cut, stood, moved, Test}
+use Rattle.sound.specs.Removals.{after, Takeable}
+use Rattle.sound.specs.Test.{Owes, gone, stays, Moved, Removed, Test}
 use Rattle.rules.proofs.Lists.{differ, own-at, zeros-at}
 use Rattle.sound.proofs.Written.{Written, written}
 use Rattle.sound.proofs.KeptOut.{kept-full, kept-out}
@@ -21,11 +16,12 @@ test-full a h =
     let g = kept-full a h in
     record {
       shape = g .shape;
-      order = g .order;
-      ownK = λ x l e. g .seated x l e .0;
-      lastK = λ i l. absurd (omega arith);
-      start = λ x l. let c = own-at a x l in stays (rw (zeros-at a x) (omega arith)) c (λ m. c);
-      cut = λ i l. absurd (omega arith);
+      seat = λ x l. let c = own-at a x l in record {
+        used = λ e. c;
+        out = λ ne. absurd (ne (zeros-at a x));
+        start = stays (rw (zeros-at a x) (omega arith)) c (λ m. c);
+      };
+      removal = λ i l. record { taken = λ h. absurd (omega arith); rest = λ h. zeros-at a i };
     }
 
 module _ (T : Bare) (b : ℕ) (g : Kept T) (v : Leaves T b) (w : Written T b) where
@@ -51,46 +47,49 @@ module _ (T : Bare) (b : ℕ) (g : Kept T) (v : Leaves T b) (w : Written T b) wh
         (λ j. let lx = l (omega arith) in w .L-off x (differ (T .L) (omega arith)) ∙ lx)
   ]
 
-  cut-new : Cut T′ (T .used - 1) b
-  cut-new = elim (ℕ-discrete (w .last) b) [
-    | yes k ↦ stood (w .W-last ∙ k)
-    | no ne ↦
-        let np : w .position ≢ T .used - 1 = λ k. ne (w .nothingMoves k) in
-        let free : T′ .A ! w .last ≡ 0 = w .A-off (w .last) ne ∙ w .lastInUse in
-        moved (rw (w .W-last) (w .lastBelow)) (rw (w .L-b) (omega arith)) (rw (w .W-last, w .L-b) (stays (rw free (omega arith)) (w .W-at) (λ h. w .L-at)))
-  ]
+  moved-new : T′ .W ! (T .used - 1) ≢ b → Moved T′ (T .used - 1) b
+  moved-new other =
+      let ne : w .last ≢ b = rw (w .W-last) at other in
+      let np : w .position ≢ T .used - 1 = λ k. ne (w .nothingMoves k) in
+      let free : T′ .A ! w .last ≡ 0 = w .A-off (w .last) ne ∙ w .lastInUse in
+      record {
+        low = rw (w .W-last) (w .lastBelow);
+        under = rw (w .L-b) (omega arith);
+        owes = rw (w .W-last, w .L-b) (stays (rw free (omega arith)) (w .W-at) (λ h. w .L-at));
+      }
 
-  cut-old : (p c : ℕ) → T .used ≤ p → 1 ≤ T .A ! c → Cut T p c → Cut T′ p c
-  cut-old p c h o t =
+  moved-old : (p c : ℕ) → T .used ≤ p → 1 ≤ T .A ! c → Moved T p c → Moved T′ p c
+  moved-old p c h o m =
       let W-p : T′ .W ! p ≡ T .W ! p = above p h in
       let L-c : T′ .L ! c ≡ T .L ! c = w .L-off c (differ (T .A) (omega arith)) in
-      elim t [
-        | stood e ↦ stood (W-p ∙ e)
-        | moved below under owes ↦ moved (rw W-p below) (rw L-c under) (rw (W-p, L-c) (owes′ _ _ owes))
-      ]
+      record { low = rw W-p (m .low); under = rw L-c (m .under); owes = rw (W-p, L-c) (owes′ _ _ (m .owes)) }
+
+  removed′ : Test T → (i : ℕ) → i < T′ .seats - T′ .used → Removed T′ i (T′ .R ! i)
+  removed′ t i h = elim (ℕ-discrete i (T .seats - T .used)) [
+    | yes e ↦
+        let p : T .seats - 1 - (T .seats - T .used) ≡ T .used - 1 = omega arith in
+        rw (e, w .R-at) (record { below = v .below; dated = w .A-at ∙ sym p; lastK = rw p (w .K-at ∙ sym (w .W-last)); moved = rw p moved-new })
+    | no ne ↦
+        let r = t .removal i (omega arith) .taken (omega arith) in
+        let up : T .used ≤ T .seats - 1 - i = omega arith in
+        let gone : 1 ≤ T .A ! (T .R ! i) = omega (arith, r .dated) in
+        let nb : T .R ! i ≢ b = differ (T .A) (omega arith) in
+        rw (w .R-off i ne)
+        (record {
+          below = r .below;
+          dated = w .A-off _ nb ∙ r .dated;
+          lastK = w .K-off _ nb ∙ r .lastK ∙ sym (above _ up);
+          moved = rw (above _ up) (λ ne. moved-old _ _ up gone (r .moved ne));
+        })
+  ]
 
   test′ : Test T → Test T′
   test′ t =
+      let k = kept-out g v in
       record {
-        shape = kept-out g v .shape;
-        order = kept-out g v .order;
-        ownK = λ x h e. kept-out g v .seated x h e .0;
-        lastK = λ i h. elim (ℕ-discrete i (T .seats - T .used)) [
-          | yes e ↦ rw (e, w .R-at, w .K-at) (sym (w .W-last) ∙ ap (λ (q : ℕ). T′ .W ! q) (omega arith))
-          | no ne ↦
-              let o = g .order .taken i (omega arith) in
-              let nb : T .R ! i ≢ b = differ (T .A) (omega arith) in
-              rw (w .R-off i ne, w .K-off _ nb) (t .lastK i (omega arith) ∙ sym (above (T .seats - 1 - i) (omega arith)))
-        ];
-        start = λ h l. owes′ h h (t .start h l);
-        cut = λ i h. elim (ℕ-discrete i (T .seats - T .used)) [
-          | yes e ↦
-              let p : T .seats - 1 - i ≡ T .used - 1 = omega arith in
-              rw p (rw (e, w .R-at) cut-new)
-          | no ne ↦
-              let o = g .order .taken i (omega arith) in
-              rw (w .R-off i ne) (cut-old (T .seats - 1 - i) (T .R ! i) (omega arith) (omega arith) (t .cut i (omega arith)))
-        ];
+        shape = k .shape;
+        seat = λ x h. record { used = λ e. k .seated x h e .0; out = k .order .each x h; start = owes′ x x (t .seat x h .start) };
+        removal = λ i h. record { taken = removed′ t i; rest = k .order .rest i };
       }
 
 pub test-out : {T : Bare} {b : ℕ} → Kept T → Leaves T b → Test T → Test (out T b)

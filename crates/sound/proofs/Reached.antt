@@ -1,40 +1,29 @@
--- A table is reached by some history if and only if it is made by taking seats out of a full one, with good ids.
+-- A table is reached by some history if and only if it passes.
 -- Only if: an opening passes the test, and so does what a change makes of a table that passes.
 -- If: by induction on the seats out of use. With none it is an opening. Else seat any fresh id: the table that this makes
 -- has one less, so it is reached, and taking that id out again gives the table back.
-use mathlib.Core.Path.{_≡_, refl, sym, ap, _∙_, subst}
-use mathlib.Core.List.{List, _∷_, _++_, append-nil}
-use mathlib.Core.Logic.{_≢_, _↔_, inl, inr}
-use Prim.Native.Nat.{ℕ, zero, suc, _-_, _<_, _≤_}
-use native.Mathlib.Omega.{arith}
-use native.Mathlib.Decide.{ℕ-discrete}
-use lib.ListN.{length, set, replicate, length-set}
-use lib.Seq.{getD-set-same, getD-set-other, set-set, set-getD}
-use Rattle.rules.specs.Table.{_!_, Bare, Table, mostSeats}
+use Rattle.promises.proofs.Prelude.{_≡_, refl, _∙_, sym, ap, subst, ap₂, _≢_, List, _∷_, _++_, append-nil, ℕ, _-_, _<_, suc, zero, arith, ℕ-discrete, length}
+use Rattle.promises.proofs.Prelude.{set, length-set, replicate, getD-set-same, getD-set-other}
+use lib.Seq.{set-set, set-getD}
+use Rattle.rules.specs.Table.{_!_, Bare, Table, table, withBare, withIds}
 use Rattle.rules.specs.Changes.{opened, lastOut, takeOut, seatId, Leaves}
 use Rattle.rules.specs.History.{Opens, Change, taking, seating, Seats, Takes, Accepts, changed, run, Accepted, done, then, Reached}
 use Rattle.rules.specs.Keys.{full}
 use Rattle.rules.specs.Asks.{Opening}
 use Rattle.rules.proofs.Accepts.{opening, opens-from, taken, takes-from, seated, seats-from}
 use Rattle.sound.specs.Kept.{Kept}
-use Rattle.sound.specs.Canonical.{after, Ids, CanonicalTable}
-use Rattle.sound.specs.Test.{Test}
-use Rattle.sound.proofs.Audit.{as-made, audit}
+use Rattle.sound.specs.Removals.{after, Ids}
+use Rattle.sound.specs.Test.{Test, Passes}
+use Rattle.sound.proofs.Audit.{order, as-made}
 use Rattle.sound.proofs.Steps.{kept, out-passes, seat-passes, seat-leaves, out-of-seat}
 use Rattle.sound.proofs.Fresh.{fresh}
 use Rattle.sound.proofs.IdsSet.{ids-set}
 use Rattle.sound.proofs.Opened.{open-passes, open-ids}
 use Rattle.sound.proofs.Histories.{reached-opened, reached-changed}
 
--- what is kept along a history
-pub record Passes (T : Table) : Type 0 where
-  pub most : T .bare .seats ≤ mostSeats
-  pub test : Test (T .bare)
-  pub ids : Ids (T .bare .seats) (T .bare .A) (T .S)
-
 -- an id stands in a seat in use
 pub named-in-use : {T : Table} {b : ℕ} → Passes T → b < T .bare .seats → T .S ! b ≢ 0 → T .bare .A ! b ≡ 0
-named-in-use {T} {b} p below named = elim (ℕ-discrete (T .bare .A ! b) 0) [ yes e ↦ e | no ne ↦ absurd (named (p .ids .none b below (omega arith))) ]
+named-in-use {T} {b} p below named = elim (ℕ-discrete (T .bare .A ! b) 0) [ yes e ↦ e | no ne ↦ absurd (named (p .ids .none b below ne)) ]
 
 pub leaves : {T : Table} {id b : ℕ} → Passes T → Takes T id b → Leaves (T .bare) b
 leaves {T} {id} {b} p t =
@@ -45,23 +34,21 @@ leaves {T} {id} {b} p t =
 pub room : {T : Table} {id b : ℕ} → Passes T → Seats T id b → T .bare .used < T .bare .seats
 room p t = omega (arith, seated t .room, p .test .shape .most)
 
+-- what a change does not touch, once its words and ids pass
+still : {T : Table} {B : Bare} {S : List ℕ} → Passes T → B .seats ≡ T .bare .seats → Test B → Ids (B .seats) (B .A) S → Passes (withIds (withBare T B) S)
+still p e t i = record { most = rw e (p .most); test = t; ids = i }
+
 pub changed-passes : {T : Table} (c : Change) → Passes T → Accepts T c → Passes (changed T c)
 changed-passes {T} (taking id b) p t =
     let v = leaves p t in
-    record {
-      most = p .most;
-      test = out-passes (T .bare) b (p .test) v;
-      ids = ids-set (T .bare .seats) (T .bare .A) (T .S) b (T .bare .used - 1) 0 (p .ids) (v .below) (p .test .shape .lenA) (λ l. refl) (λ z. absurd (omega (arith, v .two))) (λ o. absurd (o refl));
-    }
+    still p refl (out-passes (T .bare) b (p .test) v)
+    (ids-set b (T .bare .used - 1) 0 (p .ids) (v .below) (p .test .shape .lenA) (λ ne. refl) (λ z. absurd (omega (arith, v .two))) (λ o. absurd (o refl)))
 changed-passes {T} (seating id b) p t =
     let h = room p t in
     let k = seated t in
     let below = seat-leaves (T .bare) (p .test) h .below in
-    record {
-      most = p .most;
-      test = seat-passes (T .bare) (p .test) h;
-      ids = ids-set (T .bare .seats) (T .bare .A) (T .S) _ 0 id (p .ids) below (p .test .shape .lenA) (λ l. absurd (omega arith)) (λ z. k .isId) (λ o x l. k .away x (omega (arith, p .ids .size)));
-    }
+    still p refl (seat-passes (T .bare) (p .test) h)
+    (ids-set _ 0 id (p .ids) below (p .test .shape .lenA) (λ ne. absurd (ne refl)) (λ z. k .isId) (λ o x l. k .away x (omega (arith, p .ids .size))))
 
 run-passes : {T : Table} {h : List Change} → Accepted T h → Passes T → Passes (run T h)
 run-passes done p = p
@@ -74,10 +61,6 @@ opened-passes a ids o = let k = opening o in record { most = k .most; test = ope
 pub passes : {T : Table} → Reached T → Passes T
 passes r = subst (λ (U : Table). Passes U) (r .leaves) (run-passes (r .accepted) (opened-passes (r .a) (r .ids) (r .opens)))
 
--- two tables of the same words
-pub alike : {T U : Table} → T .bare ≡ U .bare → T .S ≡ U .S → T ≡ U
-alike p q = λ i. record { bare = p i; S = q i }
-
 -- with every seat in use a table is an opening
 filled : (F : Bare) → Test F → F .seats - F .used ≡ 0 → F ≡ full (F .seats)
 unfolding after
@@ -85,7 +68,7 @@ filled F t e = as-made F t ∙ ap (λ (k : ℕ). after (F .seats) (F .R) k) e
 
 module _ (T : Table) (p : Passes T) (e : T .bare .seats - T .bare .used ≡ 0) where
   inUse : (x : ℕ) → x < T .bare .seats → T .bare .A ! x ≡ 0
-  inUse x h = elim (p .test .order .each x h) [ inl z ↦ z | inr o ↦ absurd (omega arith) ]
+  inUse x h = elim (ℕ-discrete (T .bare .A ! x) 0) [ yes z ↦ z | no ne ↦ let o = p .test .seat x h .out ne in absurd (omega arith) ]
 
   opens : Opening (T .bare .seats) (T .S)
   opens =
@@ -102,7 +85,7 @@ module _ (T : Table) (p : Passes T) (e : T .bare .seats - T .bare .used ≡ 0) w
   unfolding opened
   an-opening =
       let none : T .bare .seats - length (T .S) ≡ 0 = omega (arith, p .ids .size) in
-      alike (filled (T .bare) (p .test) e ∙ sym (filled (opened (T .bare .seats) (T .S) .bare) (open-passes (T .bare .seats) (T .S) opens) none))
+      ap₂ table (filled (T .bare) (p .test) e ∙ sym (filled (opened (T .bare .seats) (T .S) .bare) (open-passes (T .bare .seats) (T .S) opens) none))
       (sym (ap (λ (k : ℕ). T .S ++ replicate k 0) none ∙ append-nil (T .S)))
 
 -- else one more id may be seated, and taken out again
@@ -111,7 +94,7 @@ module _ (T : Table) (p : Passes T) (h : T .bare .used < T .bare .seats) where
   b = lastOut (T .bare)
 
   last-taken : (b < T .bare .seats) × (T .bare .A ! b ≡ T .bare .seats - 1 - (T .bare .seats - T .bare .used - 1))
-  last-taken = p .test .order .taken (T .bare .seats - T .bare .used - 1) (omega arith)
+  last-taken = order (p .test) .taken (T .bare .seats - T .bare .used - 1) (omega arith)
 
   seatable : (id : ℕ) × Seats T id b
   seatable =
@@ -128,8 +111,9 @@ module _ (T : Table) (p : Passes T) (h : T .bare .used < T .bare .seats) where
 
   pub back : (id : ℕ) → takeOut (seatId T id) b ≡ T
   back id =
-      let none : T .S ! b ≡ 0 = p .ids .none b (last-taken .0) (omega (arith, last-taken .1)) in
-      alike (out-of-seat (T .bare) (p .test) h) (set-set (T .S) b id 0 ∙ ap (λ (v : ℕ). set (T .S) b v) (sym none) ∙ set-getD (T .S) b 0)
+      let none : T .S ! b ≡ 0 = p .ids .none b (last-taken .0) (λ z. omega (arith, last-taken .1)) in
+      ap₂ (λ (B : Bare) (S : List ℕ). withIds (withBare T B) S) (out-of-seat (T .bare) (p .test) h)
+      (set-set (T .S) b id 0 ∙ ap (λ (v : ℕ). set (T .S) b v) (sym none) ∙ set-getD (T .S) b 0)
 
 reach : (k : ℕ) (T : Table) → T .bare .seats - T .bare .used ≡ k → Passes T → Reached T
 reach zero T e p = subst (λ (U : Table). Reached U) (sym (an-opening T p e)) (reached-opened (T .bare .seats) (T .S) (opens-from (opens T p e)))
@@ -141,12 +125,6 @@ reach (suc k) T e p =
 
 pub reached : {T : Table} → Passes T → Reached T
 reached {T} p = reach (T .bare .seats - T .bare .used) T refl p
-
-pub theorem : (T : Table) → Reached T ↔ CanonicalTable T
-theorem T = (
-  λ r. let p = passes r in record { most = p .most; isMade = audit (T .bare) .0 (p .test); ids = p .ids },
-  λ f. reached (record { most = f .most; test = audit (T .bare) .1 (f .isMade); ids = f .ids }),
-)
 
 -- so a reached table keeps what made tables keep
 pub reached-kept : {T : Table} → Reached T → Kept (T .bare)

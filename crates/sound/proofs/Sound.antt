@@ -1,22 +1,18 @@
 -- Whether words are sound is decided, so that a definition may ask it.
-use mathlib.Core.Path.{_≡_, refl, sym, ap, _∙_, subst}
-use mathlib.Core.List.{List, [], _∷_, List-discrete}
-use mathlib.Core.Logic.{_≢_, Dec·and, Dec·not}
-use Prim.Native.Nat.{ℕ, zero, suc, _-_, _<_, _≤_, _^_}
-use native.Mathlib.Omega.{arith}
-use native.Mathlib.Decide.{ℕ-discrete, decLe, decLt, map-dec}
-use lib.ListN.{length, getD}
-use Rattle.rules.specs.Table.{_!_, Bare, Table, parts, runLength, mostSeats, tableOf}
+use Rattle.promises.proofs.Prelude.{_≡_, refl, _∙_, sym, ap, subst, _≢_, List, [], _∷_, ℕ, _-_, _<_, suc, zero, _^_, arith, ℕ-discrete, decLt, length, getD}
+use mathlib.Core.List.{List-discrete}
+use mathlib.Core.Logic.{Dec·and, Dec·not}
+use native.Mathlib.Decide.{decLe, map-dec}
+use Rattle.rules.specs.Table.{_!_, Bare, Table, table, parts, runLength, mostSeats, tableOf}
 use Rattle.rules.specs.History.{Id, Reached, Sound}
-use Rattle.rules.proofs.Parts.{All, none, more}
-use Rattle.rules.specs.Runs.{Legal}
+use Rattle.rules.specs.Runs.{Legal, All, none, more}
 use Rattle.rules.proofs.Words.{words-tableOf, tableOf-words, length-words}
 use Rattle.sound.specs.Kept.{Lengths}
-use Rattle.sound.specs.Canonical.{after, Takeable, Canonical, Ids}
+use Rattle.sound.specs.Removals.{after, Takeable, Ids}
 use Rattle.sound.specs.Test.{Test}
 use Rattle.sound.proofs.Passes.{made-passes}
-use Rattle.sound.proofs.Audit.{R-takeable, as-made, audit}
-use Rattle.sound.proofs.Reached.{passes, theorem}
+use Rattle.sound.proofs.Audit.{R-takeable, as-made}
+use Rattle.sound.proofs.Reached.{passes, reached}
 
 -- for all below n
 all? : (P : ℕ → Type 0) → ((i : ℕ) → Dec (P i)) → (n : ℕ) → Dec ((i : ℕ) → i < n → P i)
@@ -57,16 +53,14 @@ takeable? a rs k =
     (all? (λ i. rs ! i < a) (λ i. decLt (rs ! i) a) k)
     (all? (λ j. (i : ℕ) → i < j → rs ! i ≢ rs ! j) (λ j. all? (λ i. rs ! i ≢ rs ! j) (λ i. Dec·not (ℕ-discrete (rs ! i) (rs ! j))) j) k)))
 
-canonical? : (T : Bare) → Dec (Canonical T)
-canonical? T =
+-- a table passes if it is what taking out the first of its R makes
+test? : (T : Bare) → Dec (Test T)
+test? T =
     let k = T .seats - T .used in
-    elim (takeable? (T .seats) (T .R) k) [
-      | no n ↦ no (λ c. n (R-takeable T (audit T .1 c)))
-      | yes t ↦ elim (equal? T (after (T .seats) (T .R) k)) [
-        | no n ↦ no (λ c. n (as-made T (audit T .1 c)))
-        | yes e ↦ yes (audit T .0 (subst (λ (X : Bare). Test X) (sym e) (made-passes (T .seats) (T .R) k t)))
-      ]
-    ]
+    map-dec
+    (λ m. subst (λ (X : Bare). Test X) (sym (m .1)) (made-passes (T .seats) (T .R) k (m .0)))
+    (λ t. (R-takeable T t, as-made T t))
+    (Dec·and (takeable? (T .seats) (T .R) k) (equal? T (after (T .seats) (T .R) k)))
 
 ids? : (a : ℕ) (A S : List ℕ) → Dec (Ids a A S)
 ids? a A S =
@@ -74,7 +68,7 @@ ids? a A S =
     (λ t. record { size = t .0; none = t .1 .0; some = t .1 .1 .0; apart = λ x y h l. t .1 .1 .1 x h y l })
     (λ t. (t .size, (t .none, (t .some, λ x h y l. t .apart x y h l))))
     (Dec·and (ℕ-discrete (length S) a) (Dec·and
-    (all? (λ x. 1 ≤ A ! x → S ! x ≡ 0) (λ x. imp? (decLe 1 (A ! x)) (ℕ-discrete (S ! x) 0)) a) (Dec·and
+    (all? (λ x. A ! x ≢ 0 → S ! x ≡ 0) (λ x. imp? (Dec·not (ℕ-discrete (A ! x) 0)) (ℕ-discrete (S ! x) 0)) a) (Dec·and
     (all? (λ x. A ! x ≡ 0 → Id (S ! x)) (λ x. imp? (ℕ-discrete (A ! x) 0) (id? (S ! x))) a)
     (all? (λ x. (y : ℕ) → y < a → S ! x ≢ 0 → S ! x ≡ S ! y → x ≡ y) (λ x. all? (λ y. S ! x ≢ 0 → S ! x ≡ S ! y → x ≡ y)
     (λ y. imp? (Dec·not (ℕ-discrete (S ! x) 0)) (imp? (ℕ-discrete (S ! x) (S ! y)) (ℕ-discrete x y))) a) a))))
@@ -82,16 +76,16 @@ ids? a A S =
 pub reached? : (T : Table) → Dec (Reached T)
 reached? T =
     map-dec
-    (λ f. theorem T .1 (record { most = f .0; isMade = f .1 .0; ids = f .1 .1 }))
-    (λ r. let f = theorem T .0 r in (f .most, (f .isMade, f .ids)))
-    (Dec·and (decLe (T .bare .seats) mostSeats) (Dec·and (canonical? (T .bare)) (ids? (T .bare .seats) (T .bare .A) (T .S))))
+    (λ p. reached (record { most = p .0; test = p .1 .0; ids = p .1 .1 }))
+    (λ r. let p = passes r in (p .most, (p .test, p .ids)))
+    (Dec·and (decLe (T .bare .seats) mostSeats) (Dec·and (test? (T .bare)) (ids? (T .bare .seats) (T .bare .A) (T .S))))
 
 -- the parts of a reached table are a words each
-pub sized-parts : (T : Table) {a : ℕ} → T .bare .seats ≡ a → Lengths (T .bare) → length (T .S) ≡ a → All a (parts T)
-sized-parts T e s size = more (s .lenA ∙ e) (more (s .lenK ∙ e) (more (s .lenW ∙ e) (more (s .lenL ∙ e) (more (s .lenR ∙ e) (more size none)))))
+pub sized-parts : {B : Bare} (S : List ℕ) {a : ℕ} → B .seats ≡ a → Lengths B → length S ≡ a → All a (parts (table B S))
+sized-parts S e s size = more (s .lenA ∙ e) (more (s .lenK ∙ e) (more (s .lenW ∙ e) (more (s .lenL ∙ e) (more (s .lenR ∙ e) (more size none)))))
 
 pub sized : {T : Table} → Reached T → All (T .bare .seats) (parts T)
-sized {T} r = let p = passes r in sized-parts T refl (p .test .shape) (p .ids .size)
+sized {T} r = let p = passes r in sized-parts (T .S) refl (p .test .shape) (p .ids .size)
 
 -- so sound words are of legal shape, and what they hold is reached
 pub sound-legal : {w : List ℕ} → Sound w → Legal w (w ! 0)

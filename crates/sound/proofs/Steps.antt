@@ -1,16 +1,13 @@
 -- A change of a table that passes the test leaves one that passes; and taking out undoes seating.
-use mathlib.Core.Path.{_≡_, sym, ap, _∙_, subst}
-use Prim.Native.Nat.{ℕ, suc, _-_, _<_}
-use native.Mathlib.Omega.{arith}
-use lib.Seq.{getD-set-same}
+use Rattle.promises.proofs.Prelude.{_≡_, _∙_, sym, ap, subst, ℕ, _-_, _<_, suc, arith, getD-set-same}
 use Rattle.rules.specs.Table.{Bare, _!_}
 use Rattle.rules.specs.Changes.{out, seat, lastOut, Leaves}
 use Rattle.sound.specs.Kept.{Kept}
-use Rattle.sound.specs.Canonical.{after, Takeable}
+use Rattle.sound.specs.Removals.{after, Takeable}
 use Rattle.sound.specs.Test.{Test}
 use Rattle.sound.proofs.Made.{fewer-still, After, after-is, next-leaves, undone}
 use Rattle.sound.proofs.Passes.{made-passes, test-out}
-use Rattle.sound.proofs.Audit.{R-takeable, as-made}
+use Rattle.sound.proofs.Audit.{order, R-takeable, as-made}
 
 pub kept : (T : Bare) → Test T → Kept T
 kept T t = subst (λ (X : Bare). Kept X) (sym (as-made T t)) (after-is (T .seats) (T .R) (T .seats - T .used) (R-takeable T t) .kept)
@@ -21,7 +18,7 @@ out-passes T b t v = test-out (kept T t) v t
 -- the last seat out may leave again
 pub seat-leaves : (T : Bare) → Test T → T .used < T .seats → Leaves (seat T) (lastOut T)
 seat-leaves T t h =
-    let o = t .order .taken (T .seats - T .used - 1) (omega arith) in
+    let o = order t .taken (T .seats - T .used - 1) (omega arith) in
     record { below = o .0; inUse = getD-set-same (T .A) (lastOut T) 0 0 (omega (arith, t .shape .lenA)); two = omega (arith, t .shape .some) }
 
 module _ (T : Bare) (t : Test T) (h : T .used < T .seats) where

@@ -1,10 +1,5 @@
 -- Taking a seat out, read word by word.
-use mathlib.Core.Path.{_≡_, refl, sym, ap, _∙_}
-use mathlib.Core.Logic.{_≢_}
-use Prim.Native.Nat.{ℕ, _-_, _<_}
-use native.Mathlib.Omega.{arith}
-use native.Mathlib.Decide.{ℕ-discrete}
-use lib.Seq.{getD-set-same, getD-set-other}
+use Rattle.promises.proofs.Prelude.{_≡_, refl, _∙_, sym, ap, _≢_, ℕ, _-_, _<_, arith, ℕ-discrete, getD-set-same, getD-set-other}
 use Rattle.rules.specs.Table.{Bare, _!_}
 use Rattle.rules.specs.Changes.{out, Leaves}
 use Rattle.sound.specs.Kept.{Kept}

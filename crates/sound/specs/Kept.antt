@@ -1,6 +1,6 @@
 -- What stands in a table that is made by taking seats out: document 01, 'The table', of the words of a sound one.
 use mathlib.Core.Path.{_≡_}
-use mathlib.Core.Logic.{_⊎_}
+use mathlib.Core.Logic.{_≢_}
 use Prim.Native.Nat.{ℕ, _-_, _<_, _≤_}
 use lib.ListN.{length}
 use Rattle.rules.specs.Table.{Bare, _!_}
@@ -19,7 +19,7 @@ pub record Lengths (T : Bare) : Type 0 where
 pub record Order (T : Bare) : Type 0 where
   pub taken : (i : ℕ) → i < T .seats - T .used → (T .R ! i < T .seats) × (T .A ! (T .R ! i) ≡ T .seats - 1 - i)
   pub rest : (i : ℕ) → T .seats - T .used ≤ i → T .R ! i ≡ 0
-  pub each : (x : ℕ) → x < T .seats → (T .A ! x ≡ 0) ⊎ ((T .used ≤ T .A ! x) × (T .A ! x < T .seats) × (T .R ! (T .seats - 1 - T .A ! x) ≡ x))
+  pub each : (x : ℕ) → x < T .seats → T .A ! x ≢ 0 → (T .used ≤ T .A ! x) × (T .A ! x < T .seats) × (T .R ! (T .seats - 1 - T .A ! x) ≡ x)
 
 -- a seat in use stands in the line, and the line has seats in use
 pub record Kept (T : Bare) : Type 0 where

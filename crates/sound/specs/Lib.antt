@@ -1,5 +1,5 @@
 -- What serves the proofs.
--- The other two ways to tell a sound table: proofs/ shows them equal to that of crate `rules`.
+-- What stands in a sound table, and the audit's test of it: proofs/ shows that the tables which pass are those of crate `rules`.
 pub mod Kept
-pub mod Canonical
+pub mod Removals
 pub mod Test

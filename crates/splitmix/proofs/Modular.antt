@@ -1,7 +1,7 @@
 -- Why a product modulo P * P can be made from digits to the base P: the product of the high digits is a multiple of
 -- P * P, and a remainder may be taken early.
-use mathlib.Core.Path.{_≡_, refl, sym, ap, ap₂, _∙_, subst⁻¹}
-use Prim.Native.Nat.{ℕ, _+_, _*_, _/_, _%_, _^_, _<_}
+use Rattle.promises.proofs.Prelude.{_≡_, refl, _∙_, sym, ap, ap₂, ℕ, _<_, _+_, _^_, _*_, _/_, _%_}
+use mathlib.Core.Path.{subst⁻¹}
 use native.Mathlib.Nat.{add-assoc, add-comm, add-left-comm, mul-assoc, mul-comm, mul-left-comm, mul-right-comm, mul-add, add-mul, mul-add-mod-self-right, mod-add-mod, div-add-mod', lt-of-le-of-lt, mul-le-mul-left, le-of-lt, mul-lt-mul-of-pos-right}
 use lib.Pow.{pow-pos, pow-add}
 

@@ -1,7 +1,5 @@
 -- The promises of the exported functions leave one outcome each: the number, the lent values and the lent run or record.
-use mathlib.Core.Path.{sym, _∙_}
-use mathlib.Core.List.{List}
-use Prim.Native.Nat.{ℕ}
+use Rattle.promises.proofs.Prelude.{_∙_, sym, List, ℕ}
 use Rattle.promises.specs.One.{One}
 use Rattle.rules.specs.Answers.{Answer, Outcome}
 use Rattle.steamacorn.specs.Exports.{Told, Changes}

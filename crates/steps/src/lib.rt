@@ -1,4 +1,4 @@
-// The steps of a change: a store into each part, by a function that is lent the part itself.
+// The steps of a change: a store into each part, which is lent to the function that stores.
 ghost use mathlib.Core.Path.{_≡_};
 ghost use Prim.Native.Nat.{_+_, _<_};
 ghost use lib.ListN.{length, set};
@@ -31,111 +31,63 @@ pub fn set_n(t: &mut [u32], n: u32)
     store(t, 1, n);
 }
 
-// The steps. Each is lent one part, and takes what that part is indexed by: a seat, a position, or the number of an entry of R.
-fn set_a(A: &mut [u32], b: Seat, x: u32)
-    requires { ⌜ b .0 < length (now A) ⌝ }
-    ensures { λ _. ⌜ now (A .exit) ≡ set (now (A .entry)) (b .0) x ⌝ }
+// Part k of the run, lent to the store.
+fn put(t: &mut [u32], a: usize, k: usize, i: usize, x: u32)
+    requires { ⌜ Lent (now t) a k i ⌝ }
+    ensures { λ _. ⌜ now (t .exit) ≡ set (now (t .entry)) (base a k + i) x ⌝ }
 {
-    store(A, b.0 as usize, x);
+    let lo = start(a, k);
+    store(&mut t[lo..lo + a], i, x);
 }
 
-fn set_k(K: &mut [u32], b: Seat, x: Seat)
-    requires { ⌜ b .0 < length (now K) ⌝ }
-    ensures { λ _. ⌜ now (K .exit) ≡ set (now (K .entry)) (b .0) (x .0) ⌝ }
-{
-    store(K, b.0 as usize, x.0);
-}
-
-fn set_w(W: &mut [u32], p: Position, x: Seat)
-    requires { ⌜ p .0 < length (now W) ⌝ }
-    ensures { λ _. ⌜ now (W .exit) ≡ set (now (W .entry)) (p .0) (x .0) ⌝ }
-{
-    store(W, p.0 as usize, x.0);
-}
-
-fn set_l(L: &mut [u32], b: Seat, x: Position)
-    requires { ⌜ b .0 < length (now L) ⌝ }
-    ensures { λ _. ⌜ now (L .exit) ≡ set (now (L .entry)) (b .0) (x .0) ⌝ }
-{
-    store(L, b.0 as usize, x.0);
-}
-
-fn set_r(R: &mut [u32], i: usize, x: Seat)
-    requires { ⌜ i < length (now R) ⌝ }
-    ensures { λ _. ⌜ now (R .exit) ≡ set (now (R .entry)) i (x .0) ⌝ }
-{
-    store(R, i, x.0);
-}
-
-fn clear_r(R: &mut [u32], i: usize)
-    requires { ⌜ i < length (now R) ⌝ }
-    ensures { λ _. ⌜ now (R .exit) ≡ set (now (R .entry)) i 0 ⌝ }
-{
-    store(R, i, 0);
-}
-
-fn set_s(S: &mut [u32], b: Seat, id: u32)
-    requires { ⌜ b .0 < length (now S) ⌝ }
-    ensures { λ _. ⌜ now (S .exit) ≡ set (now (S .entry)) (b .0) id ⌝ }
-{
-    store(S, b.0 as usize, id);
-}
-
-// Each part of the run, lent to its step.
+// The steps, one for each part: each takes what its part is indexed by, a seat, a position, or the number of an entry of R, and what the part holds.
 pub fn put_a(t: &mut [u32], a: usize, b: Seat, x: u32)
     requires { ⌜ Lent (now t) a 0 (b .0) ⌝ }
     ensures { λ _. ⌜ now (t .exit) ≡ set (now (t .entry)) (base a 0 + b .0) x ⌝ }
 {
-    let lo = start(a, parts::A);
-    set_a(&mut t[lo..lo + a], b, x);
+    put(t, a, parts::A, b.0 as usize, x);
 }
 
 pub fn put_k(t: &mut [u32], a: usize, b: Seat, x: Seat)
     requires { ⌜ Lent (now t) a 1 (b .0) ⌝ }
     ensures { λ _. ⌜ now (t .exit) ≡ set (now (t .entry)) (base a 1 + b .0) (x .0) ⌝ }
 {
-    let lo = start(a, parts::K);
-    set_k(&mut t[lo..lo + a], b, x);
+    put(t, a, parts::K, b.0 as usize, x.0);
 }
 
 pub fn put_w(t: &mut [u32], a: usize, p: Position, x: Seat)
     requires { ⌜ Lent (now t) a 2 (p .0) ⌝ }
     ensures { λ _. ⌜ now (t .exit) ≡ set (now (t .entry)) (base a 2 + p .0) (x .0) ⌝ }
 {
-    let lo = start(a, parts::W);
-    set_w(&mut t[lo..lo + a], p, x);
+    put(t, a, parts::W, p.0 as usize, x.0);
 }
 
 pub fn put_l(t: &mut [u32], a: usize, b: Seat, x: Position)
     requires { ⌜ Lent (now t) a 3 (b .0) ⌝ }
     ensures { λ _. ⌜ now (t .exit) ≡ set (now (t .entry)) (base a 3 + b .0) (x .0) ⌝ }
 {
-    let lo = start(a, parts::L);
-    set_l(&mut t[lo..lo + a], b, x);
+    put(t, a, parts::L, b.0 as usize, x.0);
 }
 
 pub fn put_r(t: &mut [u32], a: usize, i: usize, x: Seat)
     requires { ⌜ Lent (now t) a 4 i ⌝ }
     ensures { λ _. ⌜ now (t .exit) ≡ set (now (t .entry)) (base a 4 + i) (x .0) ⌝ }
 {
-    let lo = start(a, parts::R);
-    set_r(&mut t[lo..lo + a], i, x);
+    put(t, a, parts::R, i, x.0);
 }
 
 pub fn wipe_r(t: &mut [u32], a: usize, i: usize)
     requires { ⌜ Lent (now t) a 4 i ⌝ }
     ensures { λ _. ⌜ now (t .exit) ≡ set (now (t .entry)) (base a 4 + i) 0 ⌝ }
 {
-    let lo = start(a, parts::R);
-    clear_r(&mut t[lo..lo + a], i);
+    put(t, a, parts::R, i, 0);
 }
 
 pub fn put_s(t: &mut [u32], a: usize, b: Seat, id: u32)
     requires { ⌜ Lent (now t) a 5 (b .0) ⌝ }
     ensures { λ _. ⌜ now (t .exit) ≡ set (now (t .entry)) (base a 5 + b .0) id ⌝ }
 {
-    let lo = start(a, parts::S);
-    set_s(&mut t[lo..lo + a], b, id);
+    put(t, a, parts::S, b.0 as usize, id);
 }
 
 // The seat that stands last has its position back: L[W[N]] becomes N.

@@ -66,7 +66,7 @@ pub record After (o : Outcome) (most : ℕ) (r : Answered) (t : List ℕ) : Type
 pub record Ends (s : List ℕ) (at r : ℕ) : Type 0 where
   pub behind : at ≤ r
   pub within : r ≤ length s
-  pub none : (k : ℕ) → at ≤ k → k < r → s ! k ≢ 10
+  pub none : (k : ℕ) → k < r → at ≤ k → s ! k ≢ 10
   pub isEnd : r < length s → s ! r ≡ 10
 
 -- room for the input's lines: a table, a list of ids, and the output

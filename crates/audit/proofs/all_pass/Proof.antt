@@ -1,8 +1,5 @@
 -- `audit::all_pass` meets its contract. The loop's invariant: what is below i is decided.
-use native.Mathlib.Omega.{arith}
-use mathlib.Core.Path.{_≡_}
-use borrow.Author.Needs.{needs}
-use Prim.Native.Nat.{_≤_, _-_}
+use Rattle.promises.proofs.Prelude.{_≡_, _-_, _≤_, arith, needs}
 use Rattle.rules.specs.Table.{tableFor}
 use Rattle.promises.specs.Decides.{Decides}
 use Rattle.promises.proofs.Decided.{decides-more}

@@ -1,8 +1,6 @@
 -- `audit::audit_table` meets its contract: it makes the pass of `Exact`, which a run of legal shape passes if and only if it is sound.
-use native.Mathlib.Omega.{arith}
-use borrow.Author.Needs.{needs}
-use borrow.Author.Tests.{not-true, not-false}
-use mathlib.Core.Path.{_≡_, sym, ap, _∙_}
+use Rattle.promises.proofs.Prelude.{_≡_, _∙_, sym, ap, arith, needs, not-false}
+use borrow.Author.Tests.{not-true}
 use Rattle.rules.specs.Ids.{repeats}
 use Rattle.parts.specs.Shape.{sizeOf}
 use Rattle.parts.specs.declared.Size.the-variants.{Is}

@@ -1,6 +1,5 @@
 -- `audit::head_passes` meets its contract: each way out has met, or missed, a word that `HeadPasses` names.
-use native.Mathlib.Omega.{arith}
-use borrow.Author.Needs.{needs}
+use Rattle.promises.proofs.Prelude.{arith, needs}
 use Rattle.audit.proofs.head_passes.Statement.{statement}
 use Rattle.audit.proofs.head_passes.Tie as tie
 

@@ -1,5 +1,5 @@
 -- `audit::index_passes` meets its contract: both tests pass.
-use borrow.Author.Needs.{needs}
+use Rattle.promises.proofs.Prelude.{needs}
 use Rattle.promises.proofs.Decided.{decides-both}
 use Rattle.audit.proofs.index_passes.Statement.{statement}
 use Rattle.audit.proofs.index_passes.Tie as tie

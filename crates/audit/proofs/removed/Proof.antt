@@ -1,8 +1,6 @@
 -- `audit::removed` meets its contract: each way out has met, or missed, a word that `Removed` names.
-use native.Mathlib.Omega.{arith}
-use borrow.Author.Needs.{needs}
-use Rattle.sound.specs.Test.{stood}
-use Rattle.audit.proofs.Decisions.{moved-low, moved-under, removed-moved}
+use Rattle.promises.proofs.Prelude.{arith, needs}
+use Rattle.audit.proofs.Decisions.{removed-moved}
 use Rattle.audit.proofs.removed.Statement.{statement}
 use Rattle.audit.proofs.removed.Tie as tie
 
@@ -16,13 +14,13 @@ returns-3 : tie.Need-returns-3
 returns-3 c = λ s. c .if3 .taken (omega (arith, s .lastK))
 
 returns-4 : tie.Need-returns-4
-returns-4 c = record { below = omega arith; dated = omega arith; lastK = omega arith; cut = stood (omega arith) }
+returns-4 c = record { below = omega arith; dated = omega arith; lastK = omega arith; moved = λ ne. absurd (omega arith) }
 
 returns-5 : tie.Need-returns-5
-returns-5 c = λ s. omega (arith, moved-low (s .cut) (omega arith))
+returns-5 c = λ s. omega (arith, s .moved (omega arith))
 
 returns-6 : tie.Need-returns-6
-returns-6 c = λ s. omega (arith, moved-under (s .cut) (omega arith))
+returns-6 c = λ s. omega (arith, s .moved (omega arith))
 
 returns-7 : tie.Need-returns-7
 returns-7 c = removed-moved _ _ _ _ _ (c .owes .result) (search needs) (search needs) (omega arith) (omega arith) (omega arith) (omega arith) (omega arith) (omega arith) (c .owes .ensures)

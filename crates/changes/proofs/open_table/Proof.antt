@@ -1,11 +1,5 @@
 -- `changes::open_table` meets its contract: each way out is the first refusal that applies, or there is none.
-use borrow.Author.Needs.{needs}
-use borrow.Author.Tests.{eq-eqb, ne-eqb, lt-ltb, le-ltb}
-use mathlib.Core.Path.{_≡_, sym, ap, _∙_}
-use mathlib.Core.Bool.{not}
-use mathlib.Core.List.{List, [], _∷_}
-use Prim.Native.Nat.{ℕ}
-use lib.ListN.{length}
+use Rattle.promises.proofs.Prelude.{_≡_, _∙_, sym, ap, not, List, [], _∷_, ℕ, length, needs, ne-eqb, eq-eqb, le-ltb, lt-ltb}
 use Rattle.rules.specs.Table.{runLength, mostSeats}
 use Rattle.rules.specs.Answers.{refusedAt, done, none, more}
 use Rattle.rules.specs.History.{listRefusals}

@@ -1,14 +1,9 @@
 -- `decimals::put_decimal` meets its contract: the other digits, and the last behind them. The measure is the number.
-use native.Mathlib.Omega.{arith}
-use borrow.Author.Needs.{needs}
-use mathlib.Core.Path.{_≡_, ap, _∙_}
-use mathlib.Core.List.{[], _∷_}
-use Prim.Native.Nat.{ℕ, _+_, _/_, _%_, _^_, _<_}
-use lib.ListN.{length, length-append}
+use Rattle.promises.proofs.Prelude.{_≡_, _∙_, ap, [], _∷_, ℕ, _<_, _+_, _^_, _/_, _%_, arith, length, length-append, needs}
 use borrow.Fn.Kinds.{In}
 use borrow.Fn.PlainCycle.{Measures, is, falls, and}
 use Rattle.decimals.specs.Decimal.{decimal}
-use Rattle.decimals.proofs.Printed.{decimal-digit, decimal-last, decimal-some}
+use Rattle.decimals.proofs.Opposites.{decimal-digit, decimal-last}
 use Rattle.decimals.proofs.Stored.{put-byte, put-then, put-length}
 use Rattle.decimals.proofs.put_decimal.Reads as put-decimal
 use Rattle.decimals.proofs.put_decimal.Kinds as put-decimal-kinds
@@ -31,35 +26,25 @@ module _ (t : ℕ) where
 
   returns : lts.Need-returns (below, put-decimal.Post) at put-decimal.Post
   returns c =
-      let s = c .before .before in
-      rw (decimal-digit (s .args .v) (omega arith)) (put-byte (s .args .out .now) (s .args .at) (48 + s .args .v) (omega (arith, s .pre .1, decimal-some 19 (s .args .v))))
-
-  requires : lts.Need-put-decimal-requires (below, put-decimal.Post) at put-decimal.Post
-  requires c κs = let s = c .before .before .before in (omega (arith, s .pre .0), omega (arith, s .pre .1, longer (s .args .v) (omega arith) (omega arith)))
+      let one = decimal-digit (c .before .before .args .v) (omega arith) in
+      rw one (put-byte _ _ (48 + c .before .before .args .v) (omega (arith, ap length one)))
 
   room : lts.Need-slice-write-out-2 (below, put-decimal.Post) at put-decimal.Post
   room c =
       let s = c .before .before .before .before .before .before in
       let p = c .before .before .put-decimal .ensures in
-      omega (arith, s .pre .1, longer (s .args .v) (omega arith) (omega arith), p .next, put-length p)
+      omega (arith, longer (s .args .v) (omega arith) (omega arith), put-length p)
 
   returns-2 : lts.Need-returns-2 (below, put-decimal.Post) at put-decimal.Post
   returns-2 c =
       let s = c .before .before .before .before .before .before in
-      rw (decimal-last (s .args .v) (omega arith) (omega arith)) (put-then (c .before .before .put-decimal .ensures) (put-byte _ _ (48 + s .args .v % 10) (room c)))
+      rw (decimal-last (s .args .v) (omega arith) (omega arith))
+      (put-then (c .before .before .put-decimal .ensures) (put-byte _ _ (48 + s .args .v % 10) (room c)))
 
 pub +put-decimal-spec : {M : Type 1} → statement M
-+put-decimal-spec = close μ λ t. lts.spec (below t, put-decimal.Post) (at t) put-decimal.Post
-    (λ c. search needs)
-    (λ c. search needs)
-    (λ c. omega (arith, returns t c .fits, decimal-some 19 (c .before .before .args .v)))
-    (λ c. omega (arith, returns t c .fits, decimal-some 19 (c .before .before .args .v)))
-    (λ c. put-length (returns t c))
-    (returns t)
-    (requires t)
-    (λ c. search needs)
-    (λ c. search needs)
-    (room t)
-    (λ c. omega (arith, room t c))
-    (λ c. put-length (returns-2 t c))
-    (returns-2 t)
++put-decimal-spec = close μ λ t. lts.spec (below t, put-decimal.Post) (at t) put-decimal.Post (search needs) (search needs)
+    (λ c. omega (arith, ap length (decimal-digit (c .before .before .args .v) (omega arith))))
+    (λ c. omega (arith, ap length (decimal-digit (c .before .before .args .v) (omega arith))))
+    (λ c. put-length (returns t c)) (returns t)
+    (λ c κs. let s = c .before .before .before in (search needs, omega (arith, longer (s .args .v) (omega arith) (omega arith))))
+    (search needs) (search needs) (room t) (λ c. omega (arith, room t c)) (λ c. put-length (returns-2 t c)) (returns-2 t)

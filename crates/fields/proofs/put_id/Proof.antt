@@ -1,5 +1,5 @@
 -- `fields::put_id` meets its contract: the id stands after the seat.
-use borrow.Author.Needs.{needs}
+use Rattle.promises.proofs.Prelude.{needs}
 use Rattle.fields.proofs.put_id.Statement.{statement}
 use Rattle.fields.proofs.put_id.Tie as tie
 

@@ -1,6 +1,5 @@
 -- `fields::second` meets its contract: a field is four bytes at most.
-use native.Mathlib.Omega.{arith}
-use borrow.Author.Needs.{needs}
+use Rattle.promises.proofs.Prelude.{arith, needs}
 use Rattle.fields.proofs.Places.{field-most}
 use Rattle.fields.proofs.second.Statement.{statement}
 use Rattle.fields.proofs.second.Tie as tie

@@ -1,11 +1,9 @@
 -- `fields::server_at` meets its contract: the server follows the seat.
-use native.Mathlib.Omega.{arith}
-use borrow.Author.Needs.{needs}
+use Rattle.promises.proofs.Prelude.{needs}
 use Rattle.fields.proofs.server_at.Statement.{statement}
 use Rattle.fields.proofs.server_at.Tie as tie
 
-returns : tie.Need-returns
-returns c = rw (← c .before .second .ensures) (c .number-at .ensures)
-
 pub server-at-spec : {M : Type 1} → statement M
-server-at-spec = tie.close (tie.spec (λ c κs. search needs) (λ c. omega arith) (λ c κs. (omega arith, omega arith)) returns)
+server-at-spec =
+    tie.close
+    (tie.spec (λ c κs. search needs) (λ c. search needs) (λ c. search needs) (λ c. rw (← c .before .second .ensures) (c .number-at .ensures)))

@@ -1,9 +1,5 @@
 -- `form::all_new` meets its contract. The loop's invariant: all but the last two for each turn that is left are looked at.
-use native.Mathlib.Omega.{arith}
-use borrow.Author.Count.{below-more}
-use borrow.Author.Needs.{needs}
-use mathlib.Core.Path.{_≡_}
-use Prim.Native.Nat.{_+_, _*_, _-_, _≤_}
+use Rattle.promises.proofs.Prelude.{_≡_, _-_, _≤_, _+_, _*_, arith, needs, below-more}
 use Rattle.promises.specs.Decides.{Decides}
 use Rattle.promises.proofs.Decided.{decides-both}
 use Rattle.fields.proofs.Places.{in-within}
@@ -37,16 +33,10 @@ loop-again c =
           (c .two-new .ensures),
     )
 
-returns : tie.Need-returns Inv-loop μ-loop
-returns c =
-    let l = c .before in
-    let n = l .before .before .args .n in
-    let end : n - 2 * l .loop .left ≡ n = omega arith in
-    rw end at (l .loop .inv .1)
-
 pub all-new-spec : {M : Type 1} → statement M
 all-new-spec =
     tie.close
     (tie.spec Inv-loop μ-loop
     (λ c. (search needs, λ j h i k. absurd (omega arith)))
-    (λ c. search needs) (λ c. search needs) two-new-requires (λ c. search needs) (λ c. search needs) loop-again returns)
+    (λ c. search needs) (λ c. search needs) two-new-requires (λ c. search needs) (λ c. search needs) loop-again
+    (λ c. let n = c .before .before .before .args .n in let end : n - 2 * c .before .loop .left ≡ n = omega arith in rw end at (c .before .loop .inv .1)))

@@ -1,6 +1,5 @@
 -- `form::differ` meets its contract: two readings tell the servers apart.
-use native.Mathlib.Omega.{arith}
-use borrow.Author.Needs.{needs}
+use Rattle.promises.proofs.Prelude.{arith, needs}
 use Rattle.form.proofs.Apart.{told-apart}
 use Rattle.form.proofs.differ.Statement.{statement}
 use Rattle.form.proofs.differ.Tie as tie

@@ -1,13 +1,5 @@
 -- `form::two_new` meets its contract. The loop's invariant: the first i are looked at.
-use native.Mathlib.Omega.{arith}
-use borrow.Author.Count.{below-more}
-use borrow.Author.Needs.{needs}
-use mathlib.Core.Path.{_≡_}
-use mathlib.Core.Bool.{_&&_}
-use mathlib.Core.List.{List}
-use mathlib.Core.Logic.{_≢_}
-use Prim.Native.Nat.{ℕ, _+_, _-_, _<_, _≤_}
-use lib.ListN.{length}
+use Rattle.promises.proofs.Prelude.{_≡_, _≢_, _&&_, List, ℕ, _-_, _≤_, _<_, _+_, arith, length, needs, below-more}
 use Rattle.promises.specs.Decides.{Decides}
 use Rattle.promises.proofs.Decided.{decides-both, decides-more}
 use Rattle.fields.specs.declared.Form.{Form}

@@ -1,6 +1,5 @@
 -- `ids::again` meets its contract: 0 is no id, and any other is looked for in the rest.
-use borrow.Author.Needs.{needs}
-use borrow.Author.Tests.{eq-eqb, ne-eqb}
+use Rattle.promises.proofs.Prelude.{needs, ne-eqb, eq-eqb}
 use Rattle.ids.proofs.again.Statement.{statement}
 use Rattle.ids.proofs.again.Tie as tie
 

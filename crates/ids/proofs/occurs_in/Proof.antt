@@ -1,8 +1,5 @@
 -- `ids::occurs_in` meets its contract. The loop's invariant: the first i of each half are looked at.
-use native.Mathlib.Omega.{arith}
-use borrow.Author.Needs.{needs}
-use Prim.Native.Nat.{_+_, _/_, _≤_, _-_}
-use lib.ListN.{length}
+use Rattle.promises.proofs.Prelude.{_-_, _≤_, _+_, _/_, arith, length, needs}
 use Rattle.ids.proofs.Scans.{Looked, looked-more, looked-all}
 use Rattle.ids.proofs.occurs_in.Statement.{statement}
 use Rattle.ids.proofs.occurs_in.Tie as tie

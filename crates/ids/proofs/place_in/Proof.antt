@@ -1,9 +1,5 @@
 -- `ids::place_in` meets its contract. The loop's invariant: i, and the place in the rest, is the place in all.
-use borrow.Author.Needs.{needs}
-use mathlib.Core.Path.{_≡_, sym, _∙_}
-use native.Mathlib.Nat.{zero-add}
-use Prim.Native.Nat.{_≤_, _+_, _-_}
-use lib.ListN.{length, drop}
+use Rattle.promises.proofs.Prelude.{_≡_, _∙_, sym, _-_, _≤_, _+_, zero-add, length, drop, needs}
 use Rattle.rules.specs.Ids.{placeOf}
 use Rattle.ids.proofs.Scans.{place-here, place-next, place-end}
 use Rattle.ids.proofs.place_in.Statement.{statement}

@@ -1,13 +1,7 @@
 -- `ids::repeats_in` meets its contract. The loop's invariant: found so far, or in the rest, is found in all.
-use native.Mathlib.Omega.{arith}
-use borrow.Author.Needs.{needs}
-use mathlib.Core.Path.{_≡_, refl, sym, ap, _∙_}
-use mathlib.Core.Bool.{not, _&&_, _||_}
-use mathlib.Core.List.{List}
-use Prim.Native.Nat.{ℕ, _+_, _≤_, _-_}
-use lib.ListN.{length, take, drop, length-drop}
+use Rattle.promises.proofs.Prelude.{_≡_, refl, _∙_, sym, ap, not, _&&_, List, ℕ, _-_, _≤_, _+_, arith, length, drop, take, length-drop, eqb, needs}
+use mathlib.Core.Bool.{_||_}
 use lib.Seq.{take-all}
-use lib.Dec.{eqb}
 use Rattle.rules.specs.Table.{_!_}
 use Rattle.rules.specs.Ids.{occurs, repeats}
 use Rattle.ids.proofs.Scans.{repeats-next, repeats-end}

@@ -1,5 +1,5 @@
 -- `layout::lay_bare` meets its contract: it lays out the parts of `laid-bare`.
-use borrow.Author.Needs.{needs}
+use Rattle.promises.proofs.Prelude.{needs}
 use Rattle.layout.proofs.Laid.{laid-bare}
 use Rattle.layout.proofs.lay_bare.Statement.{statement}
 use Rattle.layout.proofs.lay_bare.Tie as tie

@@ -1,7 +1,5 @@
 -- `layout::lay_out` meets its contract: the ids stand in S last.
-use borrow.Author.Needs.{needs}
-use mathlib.Core.Path.{_∙_, ap}
-use mathlib.Core.List.{List}
+use Rattle.promises.proofs.Prelude.{_∙_, ap, List, needs}
 use Rattle.rules.specs.Table.{part}
 use Rattle.rules.specs.Changes.{openS}
 use Rattle.layout.specs.Layout.{withPart}

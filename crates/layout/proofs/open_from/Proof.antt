@@ -1,6 +1,5 @@
 -- `layout::open_from` meets its contract: the part that it lends is filled whole.
-use borrow.Author.Needs.{needs}
-use Prim.Native.Nat.{ℕ}
+use Rattle.promises.proofs.Prelude.{ℕ, needs}
 use Rattle.rules.specs.Changes.{openA}
 use Rattle.layout.proofs.Laid.{part-filled}
 use Rattle.layout.proofs.open_from.Statement.{statement}

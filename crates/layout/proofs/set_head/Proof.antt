@@ -1,5 +1,5 @@
 -- `layout::set_head` meets its contract: it makes these stores.
-use borrow.Author.Needs.{needs}
+use Rattle.promises.proofs.Prelude.{needs}
 use Rattle.layout.proofs.set_head.Statement.{statement}
 use Rattle.layout.proofs.set_head.Tie as tie
 

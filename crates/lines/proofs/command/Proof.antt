@@ -1,15 +1,9 @@
 -- `lines::command` meets its contract: a word, and what has to follow it.
-use native.Mathlib.Omega.{arith}
-use borrow.Author.Needs.{needs}
-use mathlib.Core.Path.{_≡_, refl, sym, ap, _∙_}
-use mathlib.Core.List.{List, []}
-use Prim.Native.Nat.{ℕ}
-use lib.ListN.{drop}
+use Rattle.promises.proofs.Prelude.{_≡_, refl, ap, List, [], ℕ, arith, drop, needs}
 use Rattle.decimals.specs.Decimal.{Read}
 use Rattle.lines.specs.Lines.{given, Command, seatLine, outLine, findLine, commandOf}
-use Rattle.lines.specs.Readings.{lastOf, valueOf, Last, behindWord, afterFirst, idsRead, lineFrom, IsLine}
+use Rattle.lines.specs.Readings.{lastOf, valueOf, Last, behindWord, idsRead, lineFrom, IsLine}
 use Rattle.lines.specs.declared.Word.{Word}
-use Rattle.lines.specs.declared.Word.the-variants as word
 use Rattle.lines.specs.declared.Next.{Next}
 use Rattle.lines.proofs.command.Statement.{statement}
 use Rattle.lines.proofs.command.Tie as tie
@@ -20,37 +14,32 @@ one-number : (f : ℕ → Command) {lim : ℕ} {x : Read} {r : Next} (n : Next) 
 one-number f n t h e = rw (← t, ← h .is, e) (record { line = refl; stand = refl })
 
 -- what the line is by the word that it begins with
-told : (c : tie.After-word2) (w : Word) → c .word2 .given .0 .0 ≡ w →
-    let s = c .before .before .before .before .before in
-    behindWord w (drop (c .word2 .given .0 .1 .0 .at) (s .args .s .now)) ≡ (commandOf (s .args .s .now), idsRead (s .args .s .now))
-told c w e =
-    let s = c .before .before .before .before .before in
-    sym (ap (λ (w : Word). behindWord w (drop (c .word2 .given .0 .1 .0 .at) (s .args .s .now))) e) ∙ sym (ap (afterFirst (s .args .s .now)) (c .word2 .given .1)) ∙ c .before .before .word .ensures
-
-returns : tie.Need-returns
-returns c =
-    let s = c .before .before .before .before .before in
-    rw (← (sym (ap (afterFirst (s .args .s .now)) (c .enum-told .given .1)) ∙ c .before .before .word .ensures)) (record { line = refl; stand = refl })
-
--- open A ID..
-returns-5 : tie.Need-returns-5
-returns-5 c =
-    let o = c .before .before in
-    rw (told (o .before .before .before .before .before) word.Open (o .before .before .enum-told2 .given .1)) at (o .open-line .ensures)
+told : (c : tie.After-known-told) {w : Word} → c .before .word2 .given .0 .0 ≡ w →
+    let s = c .before .before .before .before .before .before .args .s .now in
+    behindWord w (drop (c .before .word2 .given .0 .1 .0 .at) s) ≡ (commandOf s, idsRead s)
+told c e = rw (c .before .word2 .given .1, e) at (c .before .before .before .word .ensures)
 
 pub command-spec : {M : Type 1} → statement M
 command-spec =
     tie.close
-    (tie.spec (λ c κs. search needs) (λ c. search needs) (λ c. search needs) returns (λ c. search needs) (λ c κs. search needs) (λ c. search needs)
-    (λ c κs. search needs) (λ c. search needs) (λ c. search needs)
-    (λ c. let l = c .before .before in one-number seatLine _ (told (l .before .before .before .before) word.Seat (l .before .enum-told3 .given .1)) (l .last .ensures) (c .enum-told4 .given .1))
-    (λ c. omega (arith, c .before .before .before .last .ensures .most, ap valueOf (c .before .id .given .1)))
-    (λ c. search needs) (λ c κs. search needs) (λ c. search needs) (λ c. search needs)
-    (λ c. let l = c .before .before in one-number outLine _ (told (l .before .before .before .before) word.Out (l .before .enum-told5 .given .1)) (l .last2 .ensures) (c .enum-told6 .given .1))
-    (λ c. omega (arith, c .before .before .before .last2 .ensures .most, ap valueOf (c .before .id2 .given .1)))
-    (λ c. search needs) (λ c κs. search needs) (λ c. search needs) (λ c. search needs)
-    (λ c. let l = c .before .before in one-number findLine _ (told (l .before .before .before .before) word.Find (l .before .enum-told7 .given .1)) (l .last3 .ensures) (c .enum-told8 .given .1))
-    (λ c. search needs) returns-5
-    (λ c. let l = c .before .before .before in one-number seatLine _ (told (l .before .before .before .before) word.Seat (l .before .enum-told3 .given .1)) (l .last .ensures) (c .before .id .given .1))
-    (λ c. let l = c .before .before .before in one-number outLine _ (told (l .before .before .before .before) word.Out (l .before .enum-told5 .given .1)) (l .last2 .ensures) (c .before .id2 .given .1))
-    (λ c. let l = c .before .before .before in one-number findLine _ (told (l .before .before .before .before) word.Find (l .before .enum-told7 .given .1)) (l .last3 .ensures) (c .before .key .given .1)))
+    (tie.spec (search needs) (search needs) (search needs)
+    (λ c. rw (← (c .before .before .word .ensures), c .enum-told .given .1) (record { line = refl; stand = refl })) (search needs) (search needs) (search needs)
+    (search needs) (search needs) (search needs)
+    (λ c. let l = c .before .before in one-number seatLine _ (told (l .before .before .before) (l .before .enum-told3 .given .1)) (l .last .ensures)
+    (c .enum-told4 .given .1))
+    (λ c. omega (arith, c .before .before .before .last .ensures .most, ap valueOf (c .before .id .given .1))) (search needs) (search needs) (search needs)
+    (search needs)
+    (λ c. let l = c .before .before in one-number outLine _ (told (l .before .before .before) (l .before .enum-told5 .given .1)) (l .last2 .ensures)
+    (c .enum-told6 .given .1))
+    (λ c. omega (arith, c .before .before .before .last2 .ensures .most, ap valueOf (c .before .id2 .given .1))) (search needs) (search needs) (search needs)
+    (search needs)
+    (λ c. let l = c .before .before in one-number findLine _ (told (l .before .before .before) (l .before .enum-told7 .given .1)) (l .last3 .ensures)
+    (c .enum-told8 .given .1))
+    (search needs)
+    (λ c. let w = c .before .before .before .before in rw (told (w .before .before) (w .enum-told2 .given .1)) at (c .before .before .open-line .ensures))
+    (λ c. let l = c .before .before .before in one-number seatLine _ (told (l .before .before .before) (l .before .enum-told3 .given .1)) (l .last .ensures)
+    (c .before .id .given .1))
+    (λ c. let l = c .before .before .before in one-number outLine _ (told (l .before .before .before) (l .before .enum-told5 .given .1)) (l .last2 .ensures)
+    (c .before .id2 .given .1))
+    (λ c. let l = c .before .before .before in one-number findLine _ (told (l .before .before .before) (l .before .enum-told7 .given .1))
+    (l .last3 .ensures) (c .before .key .given .1)))

@@ -1,5 +1,5 @@
 -- `moves::close_up` meets its contract: three stores, one after the other.
-use borrow.Author.Needs.{needs}
+use Rattle.promises.proofs.Prelude.{needs}
 use Rattle.moves.proofs.close_up.Statement.{statement}
 use Rattle.moves.proofs.close_up.Tie as tie
 

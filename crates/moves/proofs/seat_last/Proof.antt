@@ -1,7 +1,5 @@
 -- `moves::seat_last` meets its contract: its stores are those of `seated`.
-use native.Mathlib.Omega.{arith}
-use Prim.Native.Nat.{_<_}
-use borrow.Author.Needs.{needs}
+use Rattle.promises.proofs.Prelude.{_<_, arith, needs}
 use Rattle.moves.proofs.Stores.{is-out, out-below, last-below, back-place, seated}
 use Rattle.moves.proofs.seat_last.Statement.{statement}
 use Rattle.moves.proofs.seat_last.Tie as tie
@@ -27,10 +25,10 @@ place p =
     let b = w .before .before in
     let n = b .before .before in
     let s = n .before .before .before .pre in
-    back-place (s .0) (s .1) (n .get-n .ensures) (s .2) (b .get-r .ensures) (w .get-w .ensures) (u .undate .ensures) (p .get-l .ensures)
+    back-place (s .0) (s .1) (n .get-n .ensures) (s .2) (b .get-r .ensures) (w .get-w .ensures) (u .restore .ensures) (p .get-l .ensures)
 
-undate-requires : tie.Need-undate-requires
-undate-requires c κs =
+restore-requires : tie.Need-restore-requires
+restore-requires c κs =
     let w = c .before in
     let n = w .before .before .before .before in
     (n .before .before .before .pre .0 .shape, places w .0, places w .1, few n)
@@ -68,7 +66,8 @@ returns c =
     record {
       seat = is-out (s .pre .0) (s .pre .1) (n .get-n .ensures) (s .pre .2) (b .get-r .ensures) (w .get-w .ensures);
       run =
-          seated (s .pre .0) (s .pre .1) (n .get-n .ensures) (s .pre .2) (b .get-r .ensures) (w .get-w .ensures) (u .undate .ensures) (p .get-l .ensures) (s .args .id)
+          seated (s .pre .0) (s .pre .1) (n .get-n .ensures) (s .pre .2) (b .get-r .ensures) (w .get-w .ensures) (u .restore .ensures) (p .get-l .ensures)
+          (s .args .id)
           (s₂ .open-up .ensures) (s₃ .put-s .ensures);
     }
 
@@ -80,4 +79,4 @@ seat-last-spec =
     (λ c. omega (arith, few (c .before)))
     (λ c κs. (c .before .before .before .before .pre .0 .shape, omega (arith, few (c .before))))
     (λ c κs. (c .before .before .before .before .before .before .pre .0 .shape, few (c .before .before .before)))
-    undate-requires get-l-requires open-up-requires put-s-requires (λ c. search needs) returns)
+    restore-requires get-l-requires open-up-requires put-s-requires (λ c. search needs) returns)

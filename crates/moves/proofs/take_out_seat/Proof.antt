@@ -1,7 +1,5 @@
 -- `moves::take_out_seat` meets its contract: its stores are those of `taken-out`.
-use native.Mathlib.Omega.{arith}
-use Prim.Native.Nat.{_<_}
-use borrow.Author.Needs.{needs}
+use Rattle.promises.proofs.Prelude.{_<_, arith, needs}
 use Rattle.moves.proofs.Stores.{out-last, out-place, taken-out}
 use Rattle.moves.proofs.take_out_seat.Statement.{statement}
 use Rattle.moves.proofs.take_out_seat.Tie as tie
@@ -31,7 +29,8 @@ returns c =
     let w = p .before .before in
     let n = w .before .before in
     let s = n .before .before .before .pre in
-    taken-out (s .0) (s .1) (n .get-n .ensures) (s .2) (w .get-w .ensures) (p .get-l .ensures) (s₁ .date .ensures) (s₂ .close-up .ensures) (s₃ .put-s .ensures)
+    taken-out (s .0) (s .1) (n .get-n .ensures) (s .2) (w .get-w .ensures) (p .get-l .ensures) (s₁ .retire .ensures) (s₂ .close-up .ensures)
+    (s₃ .put-s .ensures)
 
 pub take-out-seat-spec : {M : Type 1} → statement M
 take-out-seat-spec =

@@ -1,9 +1,6 @@
 -- `parts::lend` meets its contract: the part ends within the run, so it has a words.
-use borrow.Author.Needs.{needs}
-use native.Mathlib.Omega.{arith}
+use Rattle.promises.proofs.Prelude.{_∙_, ap, arith, length, length-drop, length-take, needs}
 use native.Mathlib.Nat.{min-eq-left}
-use mathlib.Core.Path.{ap, _∙_}
-use lib.ListN.{length, length-take, length-drop}
 use Rattle.rules.proofs.Words.{part-lent}
 use Rattle.parts.proofs.lend.Statement.{statement}
 use Rattle.parts.proofs.lend.Tie as tie

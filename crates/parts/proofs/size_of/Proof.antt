@@ -1,7 +1,6 @@
 -- `parts::size_of` meets its contract: its tests are those of `legal`, one after the other.
-use mathlib.Core.Path.{sym, _∙_}
-use borrow.Author.Needs.{needs}
-use borrow.Author.Tests.{lt-leb, le-leb, eq-eqb, ne-eqb}
+use Rattle.promises.proofs.Prelude.{_∙_, sym, needs, ne-eqb, eq-eqb, le-leb}
+use borrow.Author.Tests.{lt-leb}
 use Rattle.parts.specs.Shape.{sizeOf}
 use Rattle.parts.proofs.size_of.Statement.{statement}
 use Rattle.parts.proofs.size_of.Tie as tie

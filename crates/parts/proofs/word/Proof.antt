@@ -1,5 +1,5 @@
 -- `parts::word` meets its contract: what is lent is the part.
-use borrow.Author.Needs.{needs}
+use Rattle.promises.proofs.Prelude.{needs}
 use Rattle.parts.proofs.word.Statement.{statement}
 use Rattle.parts.proofs.word.Tie as tie
 

@@ -1,6 +1,5 @@
 -- `record::build` meets its contract: a full table is laid out, the removals are made, and the servers stand in S last.
-use native.Mathlib.Omega.{arith}
-use borrow.Author.Needs.{needs}
+use Rattle.promises.proofs.Prelude.{arith, needs}
 use Rattle.rules.specs.Table.{part}
 use Rattle.layout.proofs.Laid.{part-long}
 use Rattle.record.proofs.Built.{laid-none}

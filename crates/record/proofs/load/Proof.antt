@@ -1,8 +1,5 @@
 -- `record::load` meets its contract: each way out is one of `Loads`.
-use native.Mathlib.Omega.{arith}
-use borrow.Author.Needs.{needs}
-use mathlib.Core.Path.{_≡_, refl, sym, _∙_}
-use lib.ListN.{length}
+use Rattle.promises.proofs.Prelude.{_≡_, refl, _∙_, sym, arith, length, needs}
 use Rattle.rules.specs.Table.{runLength}
 use Rattle.fields.proofs.Places.{only}
 use Rattle.form.specs.declared.Recorded.the-variants.{Of}
@@ -10,9 +7,6 @@ use Rattle.form.specs.Form.{formOf}
 use Rattle.record.proofs.Loads.{load-form, good, load-size, load-done}
 use Rattle.record.proofs.load.Statement.{statement}
 use Rattle.record.proofs.load.Tie as tie
-
-returns : tie.Need-returns
-returns c = load-form _ _ (sym (c .before .before .form-of .ensures) ∙ c .enum-told .given .1)
 
 -- the form that was read
 form : (c : tie.After-a) → formOf (c .before .before .before .before .before .args .s .now) ≡ Of (c .a .given .0 .0) (c .a .given .0 .1 .0)
@@ -34,12 +28,13 @@ returns-3 : tie.Need-returns-3
 returns-3 c =
     let b = c .before .before in
     let f = b .before .before .before .before .before in
-    load-done _ _ _ (form f) (only _ _) _ (b .build .last .0) (sized (b .before .before)) (b .build .ensures)
+    load-done _ _ _ (form f) _ (b .build .last .0) (only _ _) (sized (b .before .before)) (b .build .ensures)
 
 pub load-spec : {M : Type 1} → statement M
 load-spec =
     tie.close
-    (tie.spec (λ c κs. search needs) (λ c. search needs) (λ c. search needs) returns
+    (tie.spec (λ c κs. search needs) (λ c. search needs) (λ c. search needs)
+    (λ c. load-form _ _ (sym (c .before .before .form-of .ensures) ∙ c .enum-told .given .1))
     (λ c κs. omega (arith, good _ _ _ (form (c .before)) refl .head .most))
     returns-2 build-requires
     (λ c. let g = good _ _ _ (form (c .before .before .before .before .before .before .before)) refl in omega (arith, g .head .fit, g .head .most))

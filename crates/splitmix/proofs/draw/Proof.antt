@@ -1,6 +1,5 @@
 -- `draw` meets its promise: its steps are the rule's, and the one remainder that is taken early changes no sum modulo 2^64.
-use borrow.Author.Needs.{needs}
-use mathlib.Core.Path.{refl}
+use Rattle.promises.proofs.Prelude.{refl, needs}
 use native.Mathlib.Nat.{add-mod-mod}
 use Rattle.splitmix.specs.Generator.{output}
 use Rattle.splitmix.proofs.draw.Statement.{statement}

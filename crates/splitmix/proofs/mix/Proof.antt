@@ -1,5 +1,5 @@
 -- `mix` meets its promise: `z >> s` is z / 2^s, and `product` promises the rest.
-use borrow.Author.Needs.{needs}
+use Rattle.promises.proofs.Prelude.{needs}
 use Rattle.splitmix.specs.Generator.{mixed}
 use Rattle.splitmix.proofs.mix.Statement.{statement}
 use Rattle.splitmix.proofs.mix.Tie as tie

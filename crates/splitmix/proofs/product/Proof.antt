@@ -1,9 +1,6 @@
 -- `product` meets its promise: the halves are digits to the base 2^32, and the law of products of digits does the rest.
 -- Two halves have a product below 2^64.
-use borrow.Author.Needs.{needs}
-use native.Mathlib.Omega.{arith}
-use mathlib.Core.Path.{_∙_}
-use Prim.Native.Nat.{_^_}
+use Rattle.promises.proofs.Prelude.{_∙_, _^_, arith, needs}
 use Rattle.splitmix.proofs.Modular.{mul-lt-pow, mul-halves-mod}
 use Rattle.splitmix.proofs.product.Statement.{statement}
 use Rattle.splitmix.proofs.product.Tie as tie

@@ -1,7 +1,5 @@
 -- `steamacorn::steamacorn_find` meets its contract: it tells what the call answered.
-use borrow.Author.Needs.{needs}
-use mathlib.Core.Path.{sym, ap, _∙_}
-use Rattle.find.specs.Find.{lookupAnswer}
+use Rattle.promises.proofs.Prelude.{needs}
 use Rattle.steamacorn.proofs.Tell.{tells-fine, tells-refused}
 use Rattle.steamacorn.proofs.steamacorn_find.Statement.{statement}
 use Rattle.steamacorn.proofs.steamacorn_find.Tie as tie
@@ -9,12 +7,12 @@ use Rattle.steamacorn.proofs.steamacorn_find.Tie as tie
 returns : tie.Need-returns
 returns c =
     let k = c .before in
-    tells-fine _ _ _ (sym (ap lookupAnswer (k .b .given .1)) ∙ k .before .before .find-server .ensures)
+    tells-fine (rw (k .b .given .1) at (k .before .before .find-server .ensures))
 
 returns-2 : tie.Need-returns-2
 returns-2 c =
     let k = c .before .before in
-    tells-refused _ (k .why .given .0 .0) _ _ (sym (ap lookupAnswer (k .why .given .1)) ∙ k .before .before .find-server .ensures) (c .number .ensures)
+    tells-refused (k .why .given .0 .0) (rw (k .why .given .1) at (k .before .before .find-server .ensures)) (c .number .ensures)
 
 pub steamacorn-find-spec : {M : Type 1} → statement M
 steamacorn-find-spec = tie.close (tie.spec (λ c κs. search needs) (λ c. search needs) (λ c. search needs) (λ c κs. search needs) returns returns-2)

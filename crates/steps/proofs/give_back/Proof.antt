@@ -1,5 +1,5 @@
 -- `steps::give_back` meets its contract: it is that one store.
-use borrow.Author.Needs.{needs}
+use Rattle.promises.proofs.Prelude.{needs}
 use Rattle.steps.proofs.give_back.Statement.{statement}
 use Rattle.steps.proofs.give_back.Tie as tie
 

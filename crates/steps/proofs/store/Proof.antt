@@ -1,5 +1,5 @@
 -- `steps::store` meets its contract: it is that store.
-use borrow.Author.Needs.{needs}
+use Rattle.promises.proofs.Prelude.{needs}
 use Rattle.steps.proofs.store.Statement.{statement}
 use Rattle.steps.proofs.store.Tie as tie
 

@@ -1,17 +1,14 @@
 -- `transcript::seat_in` meets its contract: the lent words are the table.
-use native.Mathlib.Omega.{arith}
-use borrow.Author.Needs.{needs}
-use mathlib.Core.Path.{sym}
-use lib.Seq.{length-take-le}
+use Rattle.promises.proofs.Prelude.{sym, arith, length-take-le, needs}
 use Rattle.transcript.proofs.Tables.{after-call}
 use Rattle.transcript.proofs.seat_in.Statement.{statement}
 use Rattle.transcript.proofs.seat_in.Tie as tie
 
-returns : tie.Need-returns
-returns c =
-    let r = c .before .before .before in
-    let s = c .before .before .before .before .before .before in
-    after-call (s .args .t .now) (r .seat-server .last .0) _ (omega (arith, length-take-le (s .args .len) (s .args .t .now) (search needs))) (c .changed .ensures) (r .seat-server .ensures)
-
 pub seat-in-spec : {M : Type 1} → statement M
-seat-in-spec = tie.close (tie.spec (λ c. search needs) (λ c. sym (length-take-le _ _ (search needs))) (λ c κs. search needs) (λ c κs. search needs) (λ c. search needs) returns)
+seat-in-spec =
+    tie.close
+    (tie.spec (λ c. search needs) (λ c. sym (length-take-le _ _ (search needs))) (λ c. search needs) (λ c. search needs) (λ c. search needs)
+    (λ c.
+    let r = c .before .before .before in
+    let s = r .before .before .before .args in
+    after-call (s .t .now) _ _ (omega (arith, length-take-le (s .len) (s .t .now) (search needs))) (c .changed .ensures) (r .seat-server .ensures)))

@@ -1,6 +1,5 @@
 -- `main` is safe and ends: it counts to 128.
-use Prim.Native.Nat.{_-_, _≤_}
-use borrow.Author.Needs.{needs}
+use Rattle.promises.proofs.Prelude.{_-_, _≤_, needs}
 use Rattle.vectors.proofs.main.Statement.{statement}
 use Rattle.vectors.proofs.main.Tie as tie
 

@@ -1,6 +1,5 @@
 -- `print_block` is safe and ends: it counts to 1,024, and a remainder by 64 is a legal shift.
-use Prim.Native.Nat.{_-_, _≤_}
-use borrow.Author.Needs.{needs}
+use Rattle.promises.proofs.Prelude.{_-_, _≤_, needs}
 use Rattle.vectors.proofs.print_block.Statement.{statement}
 use Rattle.vectors.proofs.print_block.Tie as tie
 

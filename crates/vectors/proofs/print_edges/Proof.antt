@@ -1,6 +1,5 @@
 -- `print_edges` is safe and ends: it counts to 144, so quotient and remainder by 12 stay below 12.
-use Prim.Native.Nat.{_-_, _≤_}
-use borrow.Author.Needs.{needs}
+use Rattle.promises.proofs.Prelude.{_-_, _≤_, needs}
 use Rattle.vectors.proofs.print_edges.Statement.{statement}
 use Rattle.vectors.proofs.print_edges.Tie as tie
 

@@ -1,6 +1,5 @@
 -- `print_first` is safe and ends: it counts to 6.
-use Prim.Native.Nat.{_-_, _≤_}
-use borrow.Author.Needs.{needs}
+use Rattle.promises.proofs.Prelude.{_-_, _≤_, needs}
 use Rattle.vectors.proofs.print_first.Statement.{statement}
 use Rattle.vectors.proofs.print_first.Tie as tie
 
