@@ -9,7 +9,7 @@
 #define NAMED(by, call) JOINED(by, call)
 #define CALL(call) NAMED(BY, call)
 
-enum { SIZE = 1, COUNT, ID, TWICE, DAMAGED, FULL, ABSENT, LAST, ROOM, FORM, MOST_SEATS = 2048 };
+enum { SIZE = 1, COUNT, ID, TWICE, DAMAGED, FULL, ABSENT, LAST, ROOM, FORM, PACKET = 12, MOST_SEATS = 2048 };
 
 /* a, N and the six parts of a table */
 #define PARTS(qualifier, table)                                                                                    \
@@ -314,5 +314,50 @@ uint32_t CALL(load)(uint32_t *restrict table, size_t words, const uint8_t *restr
     for (uint32_t i = 0; i < used; i++, at += 8)
         S[read_two(at + 2)] = read_four(at + 4);
     *n = used;
+    return 0;
+}
+
+static inline uint64_t read_eight(const uint8_t *from)
+{
+    return (uint64_t)read_four(from) << 32 | read_four(from + 4);
+}
+
+/* The last word: protocol and ports. */
+static inline uint64_t last_word(const uint8_t *ports, uint32_t protocol, int wanted)
+{
+    return (uint64_t)protocol << 32 | (wanted ? read_four(ports) : 0);
+}
+
+uint32_t CALL(key)(const uint8_t *restrict packet, size_t bytes, uint8_t *restrict key, size_t key_bytes)
+{
+    if (key_bytes != 8)
+        return ROOM;
+    if (bytes == 0)
+        return PACKET;
+    uint64_t made = 0;
+    if (packet[0] >> 4 == 4) {
+        if (bytes < 20)
+            return PACKET;
+        size_t header = (size_t)(packet[0] & 15) * 4, total = read_two(packet + 2);
+        int wanted = (packet[9] == 6 || packet[9] == 17) && read_two(packet + 6) % 0x4000 == 0;
+        if (header < 20 || total < header || bytes < total || (wanted && total < header + 4))
+            return PACKET;
+        made = output(1, made ^ read_eight(packet + 12));
+        made = output(1, made ^ last_word(packet + header, packet[9], wanted));
+    } else if (packet[0] >> 4 == 6) {
+        if (bytes < 40)
+            return PACKET;
+        size_t payload = read_two(packet + 4);
+        int wanted = packet[6] == 6 || packet[6] == 17;
+        if (bytes < 40 + payload || (wanted && payload < 4))
+            return PACKET;
+        for (size_t at = 8; at < 40; at += 8)
+            made = output(1, made ^ read_eight(packet + at));
+        made = output(1, made ^ last_word(packet + 40, packet[6], wanted));
+    } else {
+        return PACKET;
+    }
+    for (size_t i = 8; i-- > 0; made >>= 8)
+        key[i] = (uint8_t)made;
     return 0;
 }

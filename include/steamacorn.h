@@ -37,9 +37,10 @@ enum {
     STEAMACORN_FULL = 6,    /* seating with N = a */
     STEAMACORN_ABSENT = 7,  /* the id to take out is not seated */
     STEAMACORN_LAST = 8,    /* taking out with N = 1 */
-    STEAMACORN_ROOM = 9,    /* the output is shorter than the record; program input over 4,096 bytes */
+    STEAMACORN_ROOM = 9,    /* the output is shorter than the record, a key's not 8; program input over 4,096 bytes */
     STEAMACORN_FORM = 10,   /* the bytes are no record of any sound table */
-    STEAMACORN_LINE = 11    /* the program does not know the line; no call answers it */
+    STEAMACORN_LINE = 11,   /* the program does not know the line; no call answers it */
+    STEAMACORN_PACKET = 12  /* the bytes are no packet that a key can be made of */
 };
 
 /* The most seats of a table. */
@@ -51,6 +52,13 @@ enum {
 /* The bytes of the record of a table of a seats with n of them in use, 6 + 4(a-n) + 8n, and the most they can be. */
 #define STEAMACORN_RECORD_BYTES(a, n) (6 + 4 * (size_t)(a) + 4 * (size_t)(n))
 #define STEAMACORN_MOST_RECORD_BYTES(a) (6 + 8 * (size_t)(a))
+
+/* The bytes of a packet's key; the number that they are, the highest first. key is evaluated for each of them. */
+#define STEAMACORN_KEY_BYTES 8
+#define STEAMACORN_KEY_NUMBER(key)                                                                                   \
+    ((uint64_t)(uint8_t)(key)[0] << 56 | (uint64_t)(uint8_t)(key)[1] << 48 | (uint64_t)(uint8_t)(key)[2] << 40 |     \
+     (uint64_t)(uint8_t)(key)[3] << 32 | (uint64_t)(uint8_t)(key)[4] << 24 | (uint64_t)(uint8_t)(key)[5] << 16 |     \
+     (uint64_t)(uint8_t)(key)[6] << 8 | (uint64_t)(uint8_t)(key)[7])
 
 /*
  * Opens a table of a seats with a list of ids: seat i gets id i, the other seats are out of use.
@@ -117,6 +125,23 @@ uint32_t steamacorn_save(const uint32_t *STEAMACORN_RESTRICT table, size_t words
  */
 uint32_t steamacorn_load(uint32_t *STEAMACORN_RESTRICT table, size_t words,
                          const uint8_t *STEAMACORN_RESTRICT record, size_t bytes, uint32_t *STEAMACORN_RESTRICT n);
+
+/*
+ * Makes a key from a packet's source, destination, protocol and ports. The packet begins with its IP header, IPv4 (RFC
+ * 791) or IPv6 (RFC 8200). Protocols 6 (TCP) and 17 (UDP) have ports, the first four bytes behind the header; with any
+ * other both are 0, and so they are in every fragment of an IPv4 packet, the first too: all its fragments get one key.
+ * A packet that is not cut up counts with its ports, and in general has another key. IPv6 extension headers are not
+ * walked: the protocol is the header's next header. No other byte is in the key, and none behind the packet's end
+ * counts.
+ * Lent: packet, bytes long, only read; key, key_bytes long.
+ * Written: the eight bytes of the key, the highest first. STEAMACORN_KEY_NUMBER(key) is the number for find; bytes that
+ * are copied into a uint64_t as they lie are another number on a machine that keeps the lowest byte first.
+ * Refusals: ROOM (key_bytes is not 8), PACKET (no bytes; the version is neither 4 nor 6; IPv4: the header is less than
+ * five words or more than the total length, or that is more than bytes; IPv6: 40 and the payload length are more than
+ * bytes; with ports: the total or payload length ends before the last of them).
+ */
+uint32_t steamacorn_key(const uint8_t *STEAMACORN_RESTRICT packet, size_t bytes, uint8_t *STEAMACORN_RESTRICT key,
+                        size_t key_bytes);
 
 #ifdef __cplusplus
 }

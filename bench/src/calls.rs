@@ -10,6 +10,7 @@ pub trait Calls {
     fn audit(table: &[u32]);
     fn save(table: &[u32], record: &mut [u8]) -> usize;
     fn load(table: &mut [u32], record: &[u8]) -> u32;
+    fn key(packet: &[u8], key: &mut [u8; 8]);
 }
 
 /// libsteamacorn.a
@@ -38,7 +39,7 @@ fn fine(number: u32) {
 
 /// Calls over C's signatures: pointers and lengths are those of slices, which are valid and do not overlap.
 macro_rules! over_pointers {
-    ($who:ty, $find:path, $out:path, $seat:path, $audit:path, $save:path, $load:path) => {
+    ($who:ty, $find:path, $out:path, $seat:path, $audit:path, $save:path, $load:path, $key:path) => {
         impl Calls for $who {
             fn find(table: &[u32], key: u64) -> (u32, u32, u32) {
                 let (mut seat, mut server, mut draws) = (0, 0, 0);
@@ -73,6 +74,10 @@ macro_rules! over_pointers {
                 fine(unsafe { $load(table.as_mut_ptr(), table.len(), record.as_ptr(), record.len(), &mut n) });
                 n
             }
+
+            fn key(packet: &[u8], key: &mut [u8; 8]) {
+                fine(unsafe { $key(packet.as_ptr(), packet.len(), key.as_mut_ptr(), key.len()) });
+            }
         }
     };
 }
@@ -84,12 +89,13 @@ over_pointers!(
     ffi::steamacorn_seat,
     ffi::steamacorn_audit,
     ffi::steamacorn_save,
-    ffi::steamacorn_load
+    ffi::steamacorn_load,
+    ffi::steamacorn_key
 );
 
 /// A compiler's baseline.c: its functions, by its names for them.
 macro_rules! baseline {
-    ($who:ty, $find:ident, $bare_find:ident, $out:ident, $seat:ident, $bare_out:ident, $bare_seat:ident, $audit:ident, $save:ident, $load:ident) => {
+    ($who:ty, $find:ident, $bare_find:ident, $out:ident, $seat:ident, $bare_out:ident, $bare_seat:ident, $audit:ident, $save:ident, $load:ident, $key:ident) => {
         extern "C" {
             fn $find(t: *const u32, words: usize, key: u64, seat: *mut u32, server: *mut u32, draws: *mut u32) -> u32;
             fn $bare_find(t: *const u32, n: usize, key: u64, seat: *mut u32, server: *mut u32, draws: *mut u32) -> u32;
@@ -100,9 +106,10 @@ macro_rules! baseline {
             fn $audit(table: *const u32, words: usize) -> u32;
             fn $save(table: *const u32, words: usize, record: *mut u8, room: usize, bytes: *mut usize) -> u32;
             fn $load(table: *mut u32, words: usize, record: *const u8, bytes: usize, n: *mut u32) -> u32;
+            fn $key(packet: *const u8, bytes: usize, key: *mut u8, key_bytes: usize) -> u32;
         }
 
-        over_pointers!($who, $find, $out, $seat, $audit, $save, $load);
+        over_pointers!($who, $find, $out, $seat, $audit, $save, $load, $key);
 
         impl Bare for $who {
             fn bare_find(table: &[u32], key: u64) -> (u32, u32, u32) {
@@ -131,7 +138,8 @@ baseline!(
     gcc_bare_seat,
     gcc_audit,
     gcc_save,
-    gcc_load
+    gcc_load,
+    gcc_key
 );
 
 baseline!(
@@ -144,7 +152,8 @@ baseline!(
     clang_bare_seat,
     clang_audit,
     clang_save,
-    clang_load
+    clang_load,
+    clang_key
 );
 
 impl Calls for InRust {
@@ -170,5 +179,9 @@ impl Calls for InRust {
 
     fn load(table: &mut [u32], record: &[u8]) -> u32 {
         safe::load(table, record).expect("accepted")
+    }
+
+    fn key(packet: &[u8], key: &mut [u8; 8]) {
+        safe::key(packet, key).expect("accepted")
     }
 }

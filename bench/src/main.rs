@@ -28,6 +28,7 @@ struct State {
     record: Vec<u8>,
     seated: Vec<u32>,
     keys: Rc<[u64]>,
+    packets: Rc<[[u8; PACKET]]>,
     turn: usize,
 }
 
@@ -53,6 +54,7 @@ impl State {
             record,
             seated: seated.to_vec(),
             keys: some_keys(keys, 2),
+            packets: Rc::new([]),
             turn: 0,
         }
     }
@@ -92,6 +94,54 @@ fn look_up_all(state: &mut State, find: impl Fn(&[u32], u64) -> (u32, u32, u32))
 
 fn find_row(keys: u32) -> Row {
     row!("find", keys, C, state => look_up_all(state, C::find))
+}
+
+/// A packet of 60 bytes: IPv4 with ports, a fragment of such, or IPv6 with ports. Its addresses are the key's.
+#[derive(Clone, Copy)]
+enum Kind {
+    Four,
+    Fragment,
+    Six,
+}
+
+const PACKET: usize = 60;
+
+fn packet(kind: Kind, key: u64) -> [u8; PACKET] {
+    let mut packet = [0; PACKET];
+    packet.chunks_exact_mut(4).zip(1..).for_each(|(four, n)| four.copy_from_slice(&output(n, key).to_be_bytes()[..4]));
+    match kind {
+        Kind::Six => packet[..8].copy_from_slice(&[0x60, 0, 0, 0, 0, PACKET as u8 - 40, 17, 64]),
+        _ => {
+            packet[..12].copy_from_slice(&[0x45, 0, 0, PACKET as u8, 0, 1, 0, 0, 64, 6, 0, 0]);
+            packet[7] = u8::from(matches!(kind, Kind::Fragment));
+        }
+    }
+    packet
+}
+
+/// A key is made of each packet.
+fn make_all(state: &mut State, key: impl Fn(&[u8], &mut [u8; 8])) {
+    let total = state.packets.iter().fold(0, |sum: u64, packet| {
+        let mut made = [0; 8];
+        key(packet, &mut made);
+        sum.wrapping_add(u64::from_be_bytes(made))
+    });
+    state.turn = total as usize;
+}
+
+fn keys_of_packets(report: &mut Report) {
+    println!("\n## Keys from packets\n");
+    println!("1,024 packets of 60 bytes again and again.\n");
+    println!("| packet | ports | {}", COLUMNS);
+    for (cells, kind) in
+        [("IPv4 | yes", Kind::Four), ("IPv4, a fragment | no", Kind::Fragment), ("IPv6 | yes", Kind::Six)]
+    {
+        let row = row!("key", HOT, C, state => make_all(state, C::key));
+        let mut state = State::new(SEATS[0], 0, 1);
+        state.packets = some_keys(HOT, 6).iter().map(|key| packet(kind, *key)).collect();
+        let times = measured(&row, &state, report.row);
+        report.line(cells, times);
+    }
 }
 
 fn call_rows() -> Vec<Row> {
@@ -153,14 +203,19 @@ impl Report {
     }
 
     /// A line of a table: four times and two ratios.
-    fn line(&mut self, cells: &str, what: &str, a: u32, times: Times) {
+    fn line(&mut self, cells: &str, times: Times) {
         let ratios = format!("{:.2} | {:.2}", times.library / times.c(), times.library / times.rust);
         let [library, gcc, clang, rust] = [times.library, times.gcc, times.clang, times.rust].map(time);
         println!("| {} | {} | {} | {} | {} | {} |", cells, library, gcc, clang, rust, ratios);
+        self.better[usize::from(times.clang < times.gcc)] += 1;
+    }
+
+    /// And in the plot.
+    fn plotted(&mut self, cells: &str, what: &str, a: u32, times: Times) {
+        self.line(cells, times);
         self.number(what, a, "library", times.library);
         self.number(what, a, "C", times.c());
         self.number(what, a, "Rust", times.rust);
-        self.better[usize::from(times.clang < times.gcc)] += 1;
     }
 }
 
@@ -171,7 +226,7 @@ fn finds(report: &mut Report, keys: u32, said: &str, what: &str, budget: Duratio
         let mut by_size = Vec::new();
         for a in SEATS {
             let times = measured(&find_row(keys), &State::new(a, out_of_100, keys), budget);
-            report.line(&format!("{} | {}", a, out_of_100), &format!("{} {}", what, out_of_100), a, times);
+            report.plotted(&format!("{} | {}", a, out_of_100), &format!("{} {}", what, out_of_100), a, times);
             by_size.push(times.library);
         }
         report.growth.push(grown(&format!("find, {} keys, {} of 100 out", said, out_of_100), &by_size));
@@ -207,7 +262,7 @@ fn calls_on_tables(report: &mut Report) {
         let mut by_size = Vec::new();
         for a in SEATS {
             let times = measured(&row, &State::new(a, 10, HOT), report.row);
-            report.line(&format!("{} | {}", row.name, a), row.name, a, times);
+            report.plotted(&format!("{} | {}", row.name, a), row.name, a, times);
             by_size.push(times.library);
         }
         report.growth.push(grown(row.name, &by_size));
@@ -317,6 +372,7 @@ fn main() {
     println!("So few that it learns their branches by heart.\n");
     finds(&mut report, HOT, "1,024", "hot find", row);
     calls_on_tables(&mut report);
+    keys_of_packets(&mut report);
     println!("\nOf the rows above C was quicker by gcc in {}, and by clang in {}.", report.better[0], report.better[1]);
     println!("\n## How the library's times grow with a\n");
     println!("| call | from 64 to 512 seats, 8 times as many | from 512 to 2,048, 4 times as many |\n|---|---|---|");

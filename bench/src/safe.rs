@@ -1,7 +1,7 @@
 //! The same rules in safe Rust, written for speed: what is not proved is checked when it runs.
 #![forbid(unsafe_code)]
 #![allow(non_snake_case)] // a part has the document's letter
-use steamacorn::model::numbers::{ABSENT, DAMAGED, FORM, FULL, ID, LAST, ROOM, SIZE, TWICE};
+use steamacorn::model::numbers::{ABSENT, DAMAGED, FORM, FULL, ID, LAST, PACKET, ROOM, SIZE, TWICE};
 use steamacorn::model::parts::MOST_SEATS;
 use steamacorn::words;
 
@@ -294,4 +294,45 @@ pub fn load(table: &mut [u32], record: &[u8]) -> Result<u32, u32> {
     let S = &mut table[2 + 5 * a..];
     ins.chunks_exact(8).for_each(|bytes| S[two(&bytes[2..])] = four(&bytes[4..]));
     Ok((ins.len() / 8) as u32)
+}
+
+/// So many bytes from `at` on.
+#[inline]
+fn bytes_at<const N: usize>(packet: &[u8], at: usize) -> Option<[u8; N]> {
+    packet.get(at..at + N)?.try_into().ok()
+}
+
+/// The key of a packet, where it keeps the rules.
+#[inline]
+fn made(packet: &[u8]) -> Option<u64> {
+    let two_at = |at| bytes_at(packet, at).map(|bytes| usize::from(u16::from_be_bytes(bytes)));
+    let after = |key: u64, at| Some(output(1, key ^ u64::from_be_bytes(bytes_at(packet, at)?)));
+    let (key, protocol, header, total, fragment) = match packet.first()? >> 4 {
+        4 => {
+            let fixed: [u8; 20] = bytes_at(packet, 0)?;
+            let header = usize::from(fixed[0] % 16) * 4;
+            if header < 20 || two_at(2)? < header {
+                return None;
+            }
+            (after(0, 12)?, fixed[9], header, two_at(2)?, two_at(6)? % 0x4000 != 0)
+        }
+        6 => {
+            let fixed: [u8; 40] = bytes_at(packet, 0)?;
+            let source = after(after(0, 8)?, 16)?;
+            (after(after(source, 24)?, 32)?, fixed[6], 40, 40 + two_at(4)?, false)
+        }
+        _ => return None,
+    };
+    let packet = packet.get(..total)?;
+    let ports = match protocol {
+        6 | 17 if !fragment => u32::from_be_bytes(bytes_at(packet, header)?),
+        _ => 0,
+    };
+    Some(output(1, key ^ (u64::from(protocol) << 32 | u64::from(ports))))
+}
+
+pub fn key(packet: &[u8], key: &mut [u8]) -> Result<(), u32> {
+    let key: &mut [u8; 8] = key.try_into().map_err(|_| ROOM)?;
+    *key = made(packet).ok_or(PACKET)?.to_be_bytes();
+    Ok(())
 }

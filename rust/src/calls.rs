@@ -55,6 +55,55 @@ pub fn take_out(table: &mut [u32], id: u32) -> Result<u32, Refusal> {
     answer(number, seat)
 }
 
+/// Writes the key of a packet, which begins with its IPv4 or IPv6 header: eight bytes, the highest first. They are one
+/// number on every machine, but only where they are read so.
+///
+/// ```
+/// use steamacorn::{find, key, open, words, Refusal};
+///
+/// # fn main() -> Result<(), Refusal> {
+/// // UDP from port 53 of 192.0.2.1 to port 4660 of 198.51.100.2, with no data
+/// let packet = [
+///     0x45, 0, 0, 28, 0, 0, 0, 0, 64, 17, 0, 0, 192, 0, 2, 1, 198, 51, 100, 2, // IPv4
+///     0, 53, 0x12, 0x34, 0, 8, 0, 0, // UDP
+/// ];
+/// let mut bytes = [0; 8];
+/// key(&packet, &mut bytes)?;
+/// let mut table = vec![0; words(7)];
+/// open(&mut table, 7, &[11, 12, 13])?;
+/// assert!((11..=13).contains(&find(&table, u64::from_be_bytes(bytes))?.server));
+/// assert_eq!(key(&packet[..27], &mut bytes), Err(Refusal::Packet));
+/// assert_eq!(key(&packet, &mut bytes[..7]), Err(Refusal::Room));
+/// # Ok(())
+/// # }
+/// ```
+pub fn key(packet: &[u8], key: &mut [u8]) -> Result<(), Refusal> {
+    let number = unsafe { ffi::steamacorn_key(packet.as_ptr(), packet.len(), key.as_mut_ptr(), key.len()) };
+    answer(number, ())
+}
+
+/// The key of a packet as the number that [`find`] takes.
+///
+/// ```
+/// use steamacorn::{find, key_of, open, words, Refusal};
+///
+/// # fn main() -> Result<(), Refusal> {
+/// let mut table = vec![0; words(7)];
+/// open(&mut table, 7, &[11, 12, 13])?;
+/// // the second fragment of a UDP datagram, and the first, which carries its ports and has lived longer
+/// let second = [0x45, 0, 0, 24, 0, 9, 0, 1, 64, 17, 0, 0, 192, 0, 2, 1, 198, 51, 100, 2, 5, 6, 7, 8];
+/// let first = [0x45, 0, 0, 28, 0, 9, 32, 0, 63, 17, 0, 0, 192, 0, 2, 1, 198, 51, 100, 2, 0, 53, 4, 0, 0, 12, 0, 0];
+/// assert_eq!(find(&table, key_of(&second)?)?, find(&table, key_of(&first)?)?);
+/// assert_eq!(key_of(&[]), Err(Refusal::Packet));
+/// # Ok(())
+/// # }
+/// ```
+pub fn key_of(packet: &[u8]) -> Result<u64, Refusal> {
+    let mut bytes = [0; 8];
+    key(packet, &mut bytes)?;
+    Ok(u64::from_be_bytes(bytes))
+}
+
 /// Finds the server for a key.
 pub fn find(table: &[u32], key: u64) -> Result<Found, Refusal> {
     let (mut seat, mut server, mut draws) = (0, 0, 0);

@@ -1,4 +1,4 @@
-//! Document 01, "Numbers a call can answer", for callers in Rust.
+//! Document 01, "Numbers a call can answer", and document 02's number for packets, for callers in Rust.
 use std::error::Error;
 use std::fmt;
 
@@ -22,15 +22,17 @@ pub enum Refusal {
     Absent = 7,
     /// Taking out the last server.
     Last = 8,
-    /// The output is shorter than the record.
+    /// The output is shorter than the record, or a key's room is not eight bytes.
     Room = 9,
     /// The bytes are no record of any sound table.
     Form = 10,
+    /// The header breaks the rules for packets, or ports that are wanted are beyond the length it tells.
+    Packet = 12,
 }
 
 impl Refusal {
     /// Every refusal, in the order of the numbers.
-    pub const ALL: [Refusal; 10] = [
+    pub const ALL: [Refusal; 11] = [
         Refusal::Size,
         Refusal::Count,
         Refusal::Id,
@@ -41,6 +43,7 @@ impl Refusal {
         Refusal::Last,
         Refusal::Room,
         Refusal::Form,
+        Refusal::Packet,
     ];
 
     /// Its number.
@@ -73,8 +76,9 @@ impl Refusal {
             Refusal::Full => "FULL: all seats are in use",
             Refusal::Absent => "ABSENT: the id is not seated",
             Refusal::Last => "LAST: the last server stays",
-            Refusal::Room => "ROOM: the output is shorter than the record",
+            Refusal::Room => "ROOM: the output is shorter than the record, or a key's room is not eight bytes",
             Refusal::Form => "FORM: the bytes are no record of any sound table",
+            Refusal::Packet => "PACKET: the header breaks the rules, or the ports are beyond its packet",
         }
     }
 }
@@ -94,7 +98,7 @@ mod tests {
 
     #[test]
     fn numbers_and_names() {
-        let numbers = [SIZE, COUNT, ID, TWICE, DAMAGED, FULL, ABSENT, LAST, ROOM, FORM];
+        let numbers = [SIZE, COUNT, ID, TWICE, DAMAGED, FULL, ABSENT, LAST, ROOM, FORM, PACKET];
         for (refusal, number) in Refusal::ALL.into_iter().zip(numbers) {
             assert_eq!(refusal.number(), number);
             assert_eq!(Refusal::of_number(number), Some(refusal));

@@ -1,8 +1,10 @@
 -- What stands where in a list of bytes; a mark, which is two bytes; and a number of any width, written and read back.
 -- A number's last byte is its remainder by 256, and the bytes before it are those of the quotient.
-use Rattle.promises.proofs.Prelude.{_≡_, refl, _∙_, ap, List, [], _∷_, _++_, ℕ, _≤_, _<_, _+_, suc, zero, _^_, _/_, _%_, add-zero, add-one, arith, length, drop}
-use Rattle.promises.proofs.Prelude.{set, length-append, take, sets, drop-drop, getD-take}
-use lib.Seq.{drop-cons, take-take, take-add, take-append-seam, drop-append-seam, getD-drop, getD-at, take-length, set-comm}
+use Rattle.promises.proofs.Prelude.{_≡_, refl, _∙_, ap, List, [], _∷_, _++_, append-nil, append-assoc, ℕ, _≤_, _<_, _+_, suc, zero, _^_, _*_, _/_, _%_}
+use Rattle.promises.proofs.Prelude.{add-zero, add-one, arith, length, drop}
+use Rattle.promises.proofs.Prelude.{set, length-append, drop-of-length-le, take, sets, drop-drop, getD-take}
+use native.Mathlib.Nat.{add-assoc, add-suc, mul-assoc, pow-suc}
+use lib.Seq.{drop-cons, sets-eq, take-take, take-add, take-append-seam, drop-append-seam, getD-drop, getD-at, take-length, set-comm}
 use Rattle.rules.specs.Table.{_!_}
 use Rattle.fields.specs.Numbers.{bytes, numberAt, Stands}
 
@@ -54,6 +56,25 @@ module _ (s : List ℕ) (byte : (i : ℕ) → s ! i < 256) where
   number-below zero at = omega arith
   number-below (suc width) at = omega (arith, number-below width at, byte (at + width))
 
+-- where the bytes are the same the number is
+pub number-same : (s t : List ℕ) (at width : ℕ) → ((i : ℕ) → i < width → s ! (at + i) ≡ t ! (at + i)) → numberAt s at width ≡ numberAt t at width
+number-same s t at zero h = refl
+number-same s t at (suc width) h = rw (number-same s t at width (λ i l. h i (omega arith)), h width (omega arith))
+
+-- a number in two stretches of bytes, read and written
+pub number-append : (s : List ℕ) (at width v : ℕ) → numberAt s at (width + v) ≡ numberAt s at width * 256 ^ v + numberAt s (at + width) v
+number-append s at width zero = rw (add-zero width) (omega arith)
+number-append s at width (suc v) =
+    rw (add-suc width v, number-append s at width v, pow-suc 256 v, ← add-assoc at width v, ← mul-assoc (numberAt s at width) (256 ^ v) 256) (omega arith)
+
+pub bytes-append : (width v x y : ℕ) → y < 256 ^ v → bytes (width + v) (x * 256 ^ v + y) ≡ bytes width x ++ bytes v y
+bytes-append width zero x y h = let e : x * 1 + y ≡ x = omega arith in rw (append-nil, add-zero, e)
+bytes-append width (suc v) x y h =
+    let high : x * 256 ^ suc v ≡ x * 256 ^ v * 256 = rw (pow-suc 256 v, mul-assoc x (256 ^ v) 256) in
+    let quotient : (x * 256 ^ suc v + y) / 256 ≡ x * 256 ^ v + y / 256 = omega (arith, high) in
+    let remainder : (x * 256 ^ suc v + y) % 256 ≡ y % 256 = omega (arith, high) in
+    rw (add-suc width v, quotient, remainder, bytes-append width v x (y / 256) (omega arith), append-assoc)
+
 -- two numbers after a mark, as in a head and in the record of a seat in use
 module _ (s mark : List ℕ) (at : ℕ) {at₁ at₂ : ℕ} (width v x y : ℕ) (e₁ : at + length mark ≡ at₁) (e₂ : at₁ + width ≡ at₂) where
   past : at₁ + length (bytes width x) ≡ at₂
@@ -73,6 +94,10 @@ module _ (s mark : List ℕ) (at : ℕ) {at₁ at₂ : ℕ} (width v x y : ℕ) 
   two-written byte h m ex ey =
       stands-both s at mark _ e₁ m
       (stands-both s at₁ (bytes width x) _ past (stands-number s byte width at₁ x (omega arith) ex) (stands-number s byte v at₂ y h ey))
+
+-- what is stored over a list of its length is all that is left
+pub sets-whole : (l xs : List ℕ) → length l ≡ length xs → sets l 0 xs ≡ xs
+sets-whole l xs e = sets-eq xs l 0 (omega arith) ∙ rw (drop-of-length-le l {i = 0 + length xs} (omega arith), append-nil xs)
 
 -- the last of a run may be stored first
 pub sets-last : (l xs : List ℕ) (i d : ℕ) → sets (set l (i + length xs) d) i xs ≡ sets l i (xs ++ (d ∷ []))

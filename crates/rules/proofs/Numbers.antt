@@ -2,10 +2,11 @@
 use Rattle.promises.proofs.Prelude.{_≡_, refl, _∙_, sym, ap, List, [], _∷_, ℕ, _<_, arith, getD}
 use Rattle.rules.specs.Answers.{numberOf, Answer, fine, refused}
 use Rattle.rules.specs.declared.Refusal.{Refusal}
-use Rattle.rules.specs.declared.Refusal.the-variants.{Size, Count, Id, Twice, Damaged, Full, Absent, Last, Room, Form}
+use Rattle.rules.specs.declared.Refusal.the-variants.{Size, Count, Id, Twice, Damaged, Full, Absent, Last, Room, Form, Packet}
 
+-- each stands at its number; 0 and 11 are no refusal's
 refusals : List Refusal
-refusals = Size ∷ Size ∷ Count ∷ Id ∷ Twice ∷ Damaged ∷ Full ∷ Absent ∷ Last ∷ Room ∷ Form ∷ []
+refusals = Size ∷ Size ∷ Count ∷ Id ∷ Twice ∷ Damaged ∷ Full ∷ Absent ∷ Last ∷ Room ∷ Form ∷ Size ∷ Packet ∷ []
 
 named : (r : Refusal) → (getD refusals (numberOf r) Size ≡ r) × (0 < numberOf r)
 unfolding refusals
@@ -19,6 +20,7 @@ named Absent = (refl, omega arith)
 named Last = (refl, omega arith)
 named Room = (refl, omega arith)
 named Form = (refl, omega arith)
+named Packet = (refl, omega arith)
 
 pub numberOf-injective : (p q : Refusal) → numberOf p ≡ numberOf q → p ≡ q
 numberOf-injective p q h = sym (named p .0) ∙ ap (λ (n : ℕ). getD refusals n Size) h ∙ named q .0

@@ -1,14 +1,14 @@
--- Document 01, 'Numbers a call can answer'.
+-- Document 01, 'Numbers a call can answer', and request 1/13's number.
 use mathlib.Core.Path.{_≡_}
 use mathlib.Core.Bool.{Bool, false, cond}
 use mathlib.Core.List.{List, [], _∷_}
 use Prim.Native.Nat.{ℕ}
 use Rattle.rules.specs.declared.Refusal.{Refusal}
-use Rattle.rules.specs.declared.Refusal.the-variants.{Size, Count, Id, Twice, Damaged, Full, Absent, Last, Room, Form}
+use Rattle.rules.specs.declared.Refusal.the-variants.{Size, Count, Id, Twice, Damaged, Full, Absent, Last, Room, Form, Packet}
 
 -- SIZE: the run's length or a is not a table's. COUNT: no id, or more than seats. ID: an id is 0. TWICE: an id is there already. DAMAGED: the table is
--- not sound, or a lookup is lost in it. FULL: no seat is free. ABSENT: the id is not seated. LAST: the only server. ROOM: the output is too short.
--- FORM: the bytes are no record.
+-- not sound, or a lookup is lost in it. FULL: no seat is free. ABSENT: the id is not seated. LAST: the only server. ROOM: the output is too short, or a key's is not eight bytes.
+-- FORM: the bytes are no record. PACKET: the bytes are no packet whose key can be made. 11 is the line program's own.
 abbrev pub numberOf : Refusal → ℕ
 numberOf Size = 1
 numberOf Count = 2
@@ -20,6 +20,7 @@ numberOf Absent = 7
 numberOf Last = 8
 numberOf Room = 9
 numberOf Form = 10
+numberOf Packet = 12
 
 -- a call's number and its values
 pub record Answer : Type 0 where

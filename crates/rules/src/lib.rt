@@ -23,6 +23,7 @@ pub enum Refusal {
     Last,
     Room,
     Form,
+    Packet,
 }
 
 pub fn number(why: Refusal) -> u32
@@ -39,5 +40,6 @@ pub fn number(why: Refusal) -> u32
         Refusal::Last => 8,
         Refusal::Room => 9,
         Refusal::Form => 10,
+        Refusal::Packet => 12,
     }
 }

@@ -3,6 +3,7 @@ ghost use mathlib.Core.List.{[], _∷_};
 ghost use Rattle.audit.specs.Audit.{auditCall};
 ghost use Rattle.changes.specs.Calls.{openCall, seatCall, outCall};
 ghost use Rattle.find.specs.Find.{findCall};
+ghost use Rattle.packet.specs.Key.{keyCall};
 ghost use Rattle.record.specs.Calls.{saveCall, loadCall};
 ghost use Rattle.steamacorn.specs.Exports.{Told, Changes};
 use audit::Audited;
@@ -14,6 +15,8 @@ use changes::seat_server;
 use changes::take_out;
 use find::Lookup;
 use find::find_server;
+use packet::Keyed;
+use packet::packet_key;
 use record::Loaded;
 use record::Saved;
 use record::load;
@@ -113,5 +116,15 @@ pub extern "C" fn steamacorn_load(table: &mut [u32], record: &[u8], n: &mut u32)
             0
         }
         Loaded::Refused(why) => number(why),
+    }
+}
+
+#[no_mangle]
+pub extern "C" fn steamacorn_key(packet: &[u8], key: &mut [u8]) -> u32
+    ensures { λ r. ⌜ Changes (keyCall (now (packet .entry)) (now (key .entry))) [] (r, [], now (key .exit)) ⌝ }
+{
+    match packet_key(packet, key) {
+        Keyed::Written => 0,
+        Keyed::Refused(why) => number(why),
     }
 }

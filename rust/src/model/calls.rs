@@ -1,7 +1,8 @@
-//! Document 01, "Numbers a call can answer": the calls on lent runs, each with its refusals in their order. A refusal
-//! answers its number and leaves the run as it was.
+//! Document 01, "Numbers a call can answer", and document 02, "Keys from packets": the calls on lent runs, each with its
+//! refusals in their order. A refusal answers its number and leaves the run as it was.
 use super::find::{Finder, Found};
-use super::numbers::{COUNT, FORM, ID, ROOM, SIZE, TWICE};
+use super::key;
+use super::numbers::{COUNT, FORM, ID, PACKET, ROOM, SIZE, TWICE};
 use super::parts::{run_length, MOST_SEATS};
 use super::record;
 use super::table::{distinct, Table};
@@ -65,6 +66,16 @@ pub fn load(run: &mut [u32], bytes: &[u8]) -> Result<u32, u32> {
     }
     run.copy_from_slice(&table.words());
     Ok(table.used())
+}
+
+/// Writes the key's eight bytes, the highest first.
+pub fn key(packet: &[u8], output: &mut [u8]) -> Result<(), u32> {
+    if output.len() != 8 {
+        return Err(ROOM);
+    }
+    let number = key::of_packet(packet).ok_or(PACKET)?;
+    output.copy_from_slice(&number.to_be_bytes());
+    Ok(())
 }
 
 #[cfg(test)]
@@ -164,6 +175,22 @@ mod tests {
         let mut loaded = vec![77; run_length(3)];
         assert_eq!(load(&mut loaded, &record), Ok(2));
         assert_eq!(loaded, run);
+    }
+
+    #[test]
+    fn key_refuses_in_order() {
+        let packet = [0x45, 0, 0, 20, 0, 0, 0, 0, 64, 1, 0, 0, 192, 0, 2, 1, 198, 51, 100, 2];
+        let mut output = [0xEE; 16];
+        for room in [0, 7, 9, 16] {
+            assert_eq!(key(&packet, &mut output[..room]), Err(ROOM));
+            assert_eq!(key(&[], &mut output[..room]), Err(ROOM));
+        }
+        assert_eq!(key(&packet[..19], &mut output[..8]), Err(PACKET));
+        assert_eq!(output, [0xEE; 16]);
+        assert_eq!(key(&packet, &mut output[..8]), Ok(()));
+        let number = key::of_packet(&packet).expect("a packet");
+        assert_eq!((u64::from(output[0]), u64::from(output[7])), (number >> 56, number % 256));
+        assert_eq!(output[8..], [0xEE; 8]);
     }
 
     #[test]

@@ -1,5 +1,5 @@
-//! The repository's one independent implementation of document 01. It is written from the document's text alone, for
-//! clarity and not for speed.
+//! The repository's one independent implementation of document 01, and of document 02 so far as it is done. It is
+//! written from the documents' text alone, for clarity and not for speed.
 //!
 //! A sound table is kept as its history leaves it: the removals that no seating has answered, in order, and the
 //! servers. Its words are made from that whenever they are wanted, by opening a table of all its seats and taking those
@@ -7,6 +7,7 @@
 //! words anew.
 pub mod calls;
 pub mod find;
+pub mod key;
 pub mod numbers;
 pub mod parts;
 pub mod record;

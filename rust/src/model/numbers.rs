@@ -1,4 +1,4 @@
-//! Document 01, "Numbers a call can answer".
+//! Document 01, "Numbers a call can answer"; PACKET is document 02's.
 pub const SIZE: u32 = 1;
 pub const COUNT: u32 = 2;
 pub const ID: u32 = 3;
@@ -10,3 +10,4 @@ pub const LAST: u32 = 8;
 pub const ROOM: u32 = 9;
 pub const FORM: u32 = 10;
 pub const LINE: u32 = 11;
+pub const PACKET: u32 = 12;

@@ -1,7 +1,7 @@
 //! The archive in the library's place.
 use crate::compare::Same;
 use crate::library::{Answer, Library, UNWRITTEN};
-use crate::{changes, damage, edges, examples, histories, keys, lookups, records};
+use crate::{changes, damage, edges, examples, histories, keys, lookups, packets, records};
 use std::sync::mpsc::{self, RecvTimeoutError};
 use std::thread;
 use std::time::Duration;
@@ -13,7 +13,7 @@ struct Archive;
 
 const WORD: u32 = UNWRITTEN as u32;
 
-// SAFETY, in all seven: pointers and lengths are those of slices, which are valid and do not overlap
+// SAFETY, in all eight: pointers and lengths are those of slices, which are valid and do not overlap
 impl Library for Archive {
     fn open(&self, table: &mut [u32], a: u32, ids: &mut [u32]) -> Answer {
         let mut n = WORD;
@@ -59,6 +59,11 @@ impl Library for Archive {
             unsafe { steamacorn_load(table.as_mut_ptr(), table.len(), record.as_mut_ptr(), record.len(), &mut n) };
         Answer { number, ..Answer::fine(&[n.into()]) }
     }
+
+    fn key(&self, packet: &mut [u8], key: &mut [u8]) -> Answer {
+        let number = unsafe { steamacorn_key(packet.as_mut_ptr(), packet.len(), key.as_mut_ptr(), key.len()) };
+        Answer { number, ..Answer::fine(&[]) }
+    }
 }
 
 /// The calls in Rust's habits.
@@ -89,8 +94,7 @@ impl Library for Wrapped {
     }
 
     fn audit(&self, table: &mut [u32]) -> Answer {
-        let refused = |refusal: Refusal| Answer::refused(refusal.number());
-        steamacorn::audit(table).map_or_else(refused, |_| Answer::fine(&[]))
+        Answer::bare(steamacorn::audit(table).map_err(Refusal::number))
     }
 
     fn save(&self, table: &mut [u32], record: &mut [u8]) -> Answer {
@@ -99,6 +103,15 @@ impl Library for Wrapped {
 
     fn load(&self, table: &mut [u32], record: &mut [u8]) -> Answer {
         answer(steamacorn::load(table, record))
+    }
+
+    /// By both calls, the bytes and the number, which have to agree.
+    fn key(&self, packet: &mut [u8], key: &mut [u8]) -> Answer {
+        let result = steamacorn::key(packet, key);
+        if let Ok(bytes) = <[u8; 8]>::try_from(&*key) {
+            assert_eq!(steamacorn::key_of(packet), result.map(|_| u64::from_be_bytes(bytes)));
+        }
+        Answer::bare(result.map_err(Refusal::number))
     }
 }
 
@@ -170,6 +183,27 @@ fn the_archive_examples() {
 }
 
 #[test]
+fn the_archive_packets() {
+    passes("edges of the packet", packets::edges, &Archive);
+    passes("packets, random", packets::random, &Archive);
+    passes("packets, bit by bit", packets::bits, &Archive);
+    passes("bits that count and do not", packets::counted, &Archive);
+    passes("packets, captured", packets::captured, &Archive);
+    passes("packets, worked out", packets::worked, &Archive);
+}
+
+#[test]
+fn the_archive_fragments() {
+    passes("fragments", packets::fragments, &Archive);
+}
+
+#[test]
+fn the_archive_servers() {
+    passes("servers for packets", packets::servers, &Archive);
+}
+
+#[test]
 fn the_calls_in_rusts_habits() {
     passes("edges, in Rust's habits", edges::compare, &Wrapped);
+    passes("edges of the packet, in Rust's habits", packets::edges, &Wrapped);
 }

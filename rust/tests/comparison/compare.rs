@@ -58,13 +58,13 @@ pub fn same_run<T: Item>(what: &str, told: &[T], expected: &[T]) -> Same<()> {
 
 /// The calls that lend runs; who implements it says what becomes of one.
 pub trait Calls {
-    /// One call, its memory being the table and a second run.
-    fn call<T: Item>(
+    /// One call, its memory being two runs: a table and another, or a packet and its key.
+    fn call<S: Item, T: Item>(
         &mut self,
         name: &str,
-        table: &mut [u32],
+        first: &mut [S],
         second: &mut [T],
-        call: impl Fn(&dyn Library, &mut [u32], &mut [T]) -> Answer,
+        call: impl Fn(&dyn Library, &mut [S], &mut [T]) -> Answer,
     ) -> Same<Answer>;
 
     fn open(&mut self, table: &mut [u32], a: u32, ids: &[u32]) -> Same<Answer> {
@@ -72,15 +72,15 @@ pub trait Calls {
     }
 
     fn seat(&mut self, table: &mut [u32], id: u32) -> Same<Answer> {
-        self.call::<u8>("seat", table, &mut [], |library, table, _| library.seat(table, id))
+        self.call::<u32, u8>("seat", table, &mut [], |library, table, _| library.seat(table, id))
     }
 
     fn out(&mut self, table: &mut [u32], id: u32) -> Same<Answer> {
-        self.call::<u8>("out", table, &mut [], |library, table, _| library.out(table, id))
+        self.call::<u32, u8>("out", table, &mut [], |library, table, _| library.out(table, id))
     }
 
     fn audit(&mut self, table: &[u32]) -> Same<Answer> {
-        self.call::<u8>("audit", &mut table.to_vec(), &mut [], |library, table, _| library.audit(table))
+        self.call::<u32, u8>("audit", &mut table.to_vec(), &mut [], |library, table, _| library.audit(table))
     }
 
     fn save(&mut self, table: &[u32], record: &mut [u8]) -> Same<Answer> {
@@ -89,6 +89,10 @@ pub trait Calls {
 
     fn load(&mut self, table: &mut [u32], record: &[u8]) -> Same<Answer> {
         self.call("load", table, &mut record.to_vec(), |library, table, record| library.load(table, record))
+    }
+
+    fn key(&mut self, packet: &[u8], key: &mut [u8]) -> Same<Answer> {
+        self.call("key", &mut packet.to_vec(), key, |library, packet, key| library.key(packet, key))
     }
 }
 
@@ -113,19 +117,19 @@ impl<'l> Alone<'l> {
 }
 
 impl Calls for Alone<'_> {
-    fn call<T: Item>(
+    fn call<S: Item, T: Item>(
         &mut self,
         name: &str,
-        table: &mut [u32],
+        first: &mut [S],
         second: &mut [T],
-        call: impl Fn(&dyn Library, &mut [u32], &mut [T]) -> Answer,
+        call: impl Fn(&dyn Library, &mut [S], &mut [T]) -> Answer,
     ) -> Same<Answer> {
         self.calls += 1;
-        let (mut lent, mut lent_second) = (Lent::new(table), Lent::new(second));
+        let (mut lent, mut lent_second) = (Lent::new(first), Lent::new(second));
         let answer = call(self.library, lent.run(), lent_second.run());
-        table.copy_from_slice(lent.run());
+        first.copy_from_slice(lent.run());
         second.copy_from_slice(lent_second.run());
-        let whole = lent.holds(table).and_then(|_| lent_second.holds(second));
+        let whole = lent.holds(first).and_then(|_| lent_second.holds(second));
         whole.map(|_| answer).map_err(|difference| format!("{}: {}", name, difference))
     }
 }
@@ -174,27 +178,27 @@ impl<'l> Comparison<'l> {
     }
 }
 
-/// The table and the second run are left as the model leaves them.
+/// Both runs are left as the model leaves them.
 impl Calls for Comparison<'_> {
-    fn call<T: Item>(
+    fn call<S: Item, T: Item>(
         &mut self,
         name: &str,
-        table: &mut [u32],
+        first: &mut [S],
         second: &mut [T],
-        call: impl Fn(&dyn Library, &mut [u32], &mut [T]) -> Answer,
+        call: impl Fn(&dyn Library, &mut [S], &mut [T]) -> Answer,
     ) -> Same<Answer> {
         self.calls += 1;
-        let before = table.to_vec();
-        let (mut lent, mut lent_second) = (Lent::new(table), Lent::new(second));
+        let before = first.to_vec();
+        let (mut lent, mut lent_second) = (Lent::new(first), Lent::new(second));
         let told = call(self.library, lent.run(), lent_second.run());
-        let expected = call(&Model, table, second);
+        let expected = call(&Model, first, second);
         let same = if told == expected {
-            lent.holds(table).and_then(|_| lent_second.holds(second))
+            lent.holds(first).and_then(|_| lent_second.holds(second))
         } else {
             Err(format!("{:?}, not {:?}", told, expected))
         };
         same.map(|_| expected).map_err(|difference| {
-            format!("{}: {} (table {:?}, second {:?})", name, difference, shown(&before), shown(second))
+            format!("{}: {} (first {:?}, second {:?})", name, difference, shown(&before), shown(second))
         })
     }
 }

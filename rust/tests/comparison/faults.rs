@@ -14,6 +14,7 @@ pub struct Faulty {
     pub find: fn(&mut [u32], u64) -> Answer,
     pub save: fn(&mut [u32], &mut [u8]) -> Answer,
     pub load: fn(&mut [u32], &mut [u8]) -> Answer,
+    pub key: fn(&mut [u8], &mut [u8]) -> Answer,
 }
 
 pub const FAULTLESS: Faulty = Faulty {
@@ -22,6 +23,7 @@ pub const FAULTLESS: Faulty = Faulty {
     find: |table, key| Model.find(table, key),
     save: |table, record| Model.save(table, record),
     load: |table, record| Model.load(table, record),
+    key: |packet, key| Model.key(packet, key),
 };
 
 impl Library for Faulty {
@@ -51,6 +53,10 @@ impl Library for Faulty {
 
     fn load(&self, table: &mut [u32], record: &mut [u8]) -> Answer {
         (self.load)(table, record)
+    }
+
+    fn key(&self, packet: &mut [u8], key: &mut [u8]) -> Answer {
+        (self.key)(packet, key)
     }
 }
 

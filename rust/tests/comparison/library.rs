@@ -1,4 +1,4 @@
-//! What is compared: the seven calls. Every run is lent so that it could be written to, also one that a call has only
+//! What is compared: the eight calls. Every run is lent so that it could be written to, also one that a call has only
 //! to read, so that such a write shows.
 use steamacorn::model::calls;
 use steamacorn::model::find::{by_arrays, first_of, pick_of, Found};
@@ -29,6 +29,11 @@ impl Answer {
     pub fn of(result: Result<impl Into<u64>, u32>) -> Answer {
         result.map_or_else(Answer::refused, |value| Answer::fine(&[value.into()]))
     }
+
+    /// Of a call that has no values.
+    pub fn bare(result: Result<(), u32>) -> Answer {
+        result.map_or_else(Answer::refused, |_| Answer::fine(&[]))
+    }
 }
 
 pub trait Library {
@@ -39,6 +44,7 @@ pub trait Library {
     fn audit(&self, table: &mut [u32]) -> Answer;
     fn save(&self, table: &mut [u32], record: &mut [u8]) -> Answer;
     fn load(&self, table: &mut [u32], record: &mut [u8]) -> Answer;
+    fn key(&self, packet: &mut [u8], key: &mut [u8]) -> Answer;
 }
 
 /// The model. It finds by the arrays, on sound tables too, where a comparison goes by sets: there both have to agree.
@@ -63,7 +69,7 @@ impl Library for Model {
     }
 
     fn audit(&self, table: &mut [u32]) -> Answer {
-        calls::audit(table).map_or_else(Answer::refused, |_| Answer::fine(&[]))
+        Answer::bare(calls::audit(table))
     }
 
     fn save(&self, table: &mut [u32], record: &mut [u8]) -> Answer {
@@ -72,6 +78,10 @@ impl Library for Model {
 
     fn load(&self, table: &mut [u32], record: &mut [u8]) -> Answer {
         Answer::of(calls::load(table, record))
+    }
+
+    fn key(&self, packet: &mut [u8], key: &mut [u8]) -> Answer {
+        Answer::bare(calls::key(packet, key))
     }
 }
 

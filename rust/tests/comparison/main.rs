@@ -4,6 +4,7 @@
 //! would be seen.
 mod compare;
 mod library;
+mod made;
 mod played;
 mod random;
 
@@ -14,10 +15,12 @@ mod examples;
 mod histories;
 mod keys;
 mod lookups;
+mod packets;
 mod records;
 
 #[cfg(feature = "archive")]
 mod archive;
 mod faults;
+mod key_faults;
 mod model;
 mod self_check;

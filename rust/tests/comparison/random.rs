@@ -62,4 +62,8 @@ impl Random {
     pub fn garbage(&mut self, length: usize) -> Vec<u32> {
         (0..length).map(|_| self.word()).collect()
     }
+
+    pub fn bytes(&mut self, length: usize) -> Vec<u8> {
+        (0..length).map(|_| self.word() as u8).collect()
+    }
 }

@@ -1,8 +1,9 @@
 //! The comparisons themselves: the model passes them, and a model with a known fault does not.
 use crate::compare::Same;
 use crate::faults::*;
+use crate::key_faults::*;
 use crate::library::{Library, Model};
-use crate::{changes, damage, edges, examples, histories, keys, lookups, records};
+use crate::{changes, damage, edges, examples, histories, keys, lookups, packets, records};
 
 fn passes(name: &str, compare: fn(&dyn Library) -> Same<u64>) {
     match compare(&Model) {
@@ -58,6 +59,18 @@ fn the_model_saves_and_loads() {
 #[test]
 fn the_model_passes_examples() {
     passes("examples", examples::compare);
+}
+
+#[test]
+fn the_model_passes_packets() {
+    passes("edges of the packet", packets::edges);
+    passes("packets, random", packets::random);
+    passes("packets, bit by bit", packets::bits);
+    passes("bits that count and do not", packets::counted);
+    passes("packets, captured", packets::captured);
+    passes("packets, worked out", packets::worked);
+    passes("fragments", packets::fragments);
+    passes("servers for packets", packets::servers);
 }
 
 /// The comparison tells a difference, which begins so.
@@ -151,4 +164,88 @@ fn another_order_of_refusals_is_caught() {
 fn a_load_that_is_not_the_opposite_is_caught() {
     caught(records::opposites, Faulty { load: orderless_load, ..FAULTLESS }, "loaded: place");
     caught(examples::compare, Faulty { load: orderless_load, ..FAULTLESS }, "load: place");
+}
+
+#[test]
+fn ports_of_a_fragment_are_caught() {
+    let first = || Faulty { key: ports_of_first_fragment, ..FAULTLESS };
+    caught(packets::edges, first(), "key: place");
+    caught(packets::random, first(), "key: place");
+    caught(packets::fragments, first(), "the fragment of bytes 0..8:");
+    caught(packets::captured, first(), "IPv4 UDP fragments, piece 1;");
+    caught(packets::worked, first(), "the packet [69, 0, 0, 24, 0, 0, 32, 0");
+    let last = || Faulty { key: ports_of_last_fragment, ..FAULTLESS };
+    caught(packets::edges, last(), "key: place");
+    caught(packets::fragments, last(), "the fragment of bytes 8..16:");
+    caught(packets::captured, last(), "IPv4 UDP fragments, piece 3;");
+}
+
+#[test]
+fn a_flag_taken_for_a_fragment_is_caught() {
+    caught(packets::edges, Faulty { key: any_flag, ..FAULTLESS }, "key: place");
+    caught(packets::bits, Faulty { key: any_flag, ..FAULTLESS }, "key: place");
+    caught(packets::counted, Faulty { key: any_flag, ..FAULTLESS }, "bit 49, which does not count:");
+    caught(packets::captured, Faulty { key: any_flag, ..FAULTLESS }, "IPv4 TCP SYN;");
+}
+
+#[test]
+fn ports_from_elsewhere_are_caught() {
+    let options = || Faulty { key: ports_among_options, ..FAULTLESS };
+    caught(packets::edges, options(), "key: place");
+    caught(packets::bits, options(), "key: place");
+    caught(packets::counted, options(), "bit 160, which does not count:");
+    caught(packets::fragments, options(), "the whole:");
+    caught(packets::servers, options(), "the server:");
+    caught(packets::captured, options(), "IPv4 UDP, router alert;");
+    caught(packets::worked, options(), "the packet [70, ");
+    caught(packets::edges, Faulty { key: ports_beyond_total, ..FAULTLESS }, "key: Answer");
+    caught(packets::random, Faulty { key: ports_beyond_total, ..FAULTLESS }, "key: Answer");
+    caught(packets::edges, Faulty { key: ports_beyond_payload, ..FAULTLESS }, "key: Answer");
+    caught(packets::edges, Faulty { key: no_source_port_0, ..FAULTLESS }, "key: Answer");
+}
+
+#[test]
+fn words_in_another_order_are_caught() {
+    caught(packets::edges, Faulty { key: exchanged_words, ..FAULTLESS }, "key: place");
+    caught(packets::captured, Faulty { key: exchanged_words, ..FAULTLESS }, "IPv6 TCP SYN;");
+    caught(packets::worked, Faulty { key: exchanged_words, ..FAULTLESS }, "the packet [96, ");
+}
+
+#[test]
+fn ports_that_do_not_count_are_caught() {
+    caught(packets::edges, Faulty { key: no_ports_of_tcp, ..FAULTLESS }, "key: place");
+    caught(packets::counted, Faulty { key: no_ports_of_tcp, ..FAULTLESS }, "bit 224, which counts:");
+}
+
+#[test]
+fn a_packet_taken_too_easily_is_caught() {
+    caught(packets::edges, Faulty { key: easy_key, ..FAULTLESS }, "key: Answer");
+    caught(packets::random, Faulty { key: easy_key, ..FAULTLESS }, "key: Answer");
+}
+
+#[test]
+fn a_walked_extension_is_caught() {
+    caught(packets::edges, Faulty { key: walked_extension, ..FAULTLESS }, "key: place");
+    caught(packets::captured, Faulty { key: walked_extension, ..FAULTLESS }, "IPv6 hop by hop;");
+}
+
+#[test]
+fn other_rooms_for_a_key_are_caught() {
+    caught(packets::edges, Faulty { key: hasty_key, ..FAULTLESS }, "key: Answer");
+    caught(packets::edges, Faulty { key: roomy_key, ..FAULTLESS }, "key: Answer");
+    caught(packets::edges, Faulty { key: byte_of_room, ..FAULTLESS }, "key: Answer");
+}
+
+#[test]
+fn another_order_of_a_keys_bytes_is_caught() {
+    caught(packets::edges, Faulty { key: little_endian_key, ..FAULTLESS }, "key: place");
+    caught(packets::fragments, Faulty { key: little_endian_key, ..FAULTLESS }, "the whole:");
+    caught(packets::servers, Faulty { key: little_endian_key, ..FAULTLESS }, "the server:");
+    caught(packets::captured, Faulty { key: little_endian_key, ..FAULTLESS }, "IPv4 TCP SYN;");
+}
+
+#[test]
+fn what_a_key_must_not_write_is_caught() {
+    caught(packets::edges, Faulty { key: key_beside_refusal, ..FAULTLESS }, "key: place 0 of 8");
+    caught(packets::edges, Faulty { key: forwarding_key, ..FAULTLESS }, "key: place 8 of");
 }

@@ -1,5 +1,5 @@
--- `draw` meets its promise: its steps are the rule's, and the one remainder that is taken early changes no sum modulo 2^64.
-use Rattle.promises.proofs.Prelude.{refl, needs}
+-- `draw` meets its promise: the one remainder that is taken early changes no sum modulo 2^64.
+use Rattle.promises.proofs.Prelude.{needs}
 use native.Mathlib.Nat.{add-mod-mod}
 use Rattle.splitmix.specs.Generator.{output}
 use Rattle.splitmix.proofs.draw.Statement.{statement}
@@ -7,11 +7,7 @@ use Rattle.splitmix.proofs.draw.Tie as tie
 
 returns : tie.Need-returns
 unfolding output
-returns c =
-    let started = c .before .before in
-    rw (c .mix2 .ensures, c .before .mix .ensures, started .wrapping-add-u64 .ensures, started .before .product .ensures, add-mod-mod) refl
+returns c = rw (c .scramble .ensures, c .before .wrapping-add-u64 .ensures, c .before .before .product .ensures, add-mod-mod)
 
 pub draw-spec : {M : Type 1} → statement M
-draw-spec =
-    tie.close
-    (tie.spec (λ c κs. search needs) (λ c κs. search needs) (λ c κs. search needs) (λ c κs. search needs) returns)
+draw-spec = tie.close (tie.spec (λ c κs. search needs) (λ c κs. search needs) (λ c κs. search needs) returns)
