@@ -11,10 +11,13 @@ usage: ./seats.sh <INPUT >OUTPUT
 The table inside a load balancer, at the terminal: each line that is read from
 standard input is a command, and gets one line on standard output.
 
-  open A ID..   ok N                   a new table of A seats, with N servers
-  seat ID       ok SEAT                a server gets the seat that was left last
-  out ID        ok SEAT                a server leaves; only its keys move
-  find KEY      ok SEAT SERVER DRAWS   where a key is, and the hashes it took
+  open A ID..   ok N                        a new table of A seats, N servers
+  seat ID       ok SEAT                     a server gets the seat left last
+  out ID        ok SEAT                     a server leaves; only its keys move
+  find KEY      ok SEAT SERVER DRAWS WALKS  where a key is, and how it got there
+
+DRAWS are the hashes that the key took. A seat out of use has a successor, the
+seat that took its place when it left: WALKS are those that the key followed.
 
 A is 1 to 2048, an ID 1 to 4294967295, a KEY 0 to 18446744073709551615, in
 decimal; one space parts the words. A line that is refused changes nothing, and

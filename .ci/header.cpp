@@ -10,7 +10,7 @@ static_assert(STEAMACORN_FINE == 0 && STEAMACORN_LINE == 11 && STEAMACORN_PACKET
 int main()
 {
     const uint32_t ids[] = {5, 6};
-    uint32_t table[STEAMACORN_WORDS(2)], loaded[STEAMACORN_WORDS(2)], n, seat, server, draws;
+    uint32_t table[STEAMACORN_WORDS(2)], loaded[STEAMACORN_WORDS(2)], n, seat, server, draws, walks;
     uint8_t record[STEAMACORN_RECORD_BYTES(2, 1)];
     uint8_t packet[24] = {0x45, 0, 0, 24, 0, 0, 0, 0, 64, 6, 0, 0, 192, 0, 2, 1, 198, 51, 100, 2, 4, 0, 0, 80};
     uint8_t key[STEAMACORN_KEY_BYTES];
@@ -21,6 +21,9 @@ int main()
                 steamacorn_out(table, STEAMACORN_WORDS(2), 6, &seat) == STEAMACORN_FINE && seat == 1 &&
                 steamacorn_find(table, STEAMACORN_WORDS(2), 9, &seat, &server, &draws) == STEAMACORN_FINE &&
                 seat == 0 && server == 5 && draws <= 2 &&
+                steamacorn_find_walks(table, STEAMACORN_WORDS(2), 9, &seat, &server, &draws, &walks) ==
+                    STEAMACORN_FINE &&
+                seat == 0 && server == 5 && draws <= 2 && walks == draws - 1 &&
                 steamacorn_audit(table, STEAMACORN_WORDS(2)) == STEAMACORN_FINE &&
                 steamacorn_save(table, STEAMACORN_WORDS(2), record, sizeof record, &bytes) == STEAMACORN_FINE &&
                 bytes == sizeof record &&

@@ -30,13 +30,15 @@ static int legal(const uint32_t *table, size_t words)
     return words >= 2 && table[0] >= 1 && table[0] <= MOST_SEATS && words == 2 + 6 * (size_t)table[0];
 }
 
-uint32_t CALL(find)(const uint32_t *restrict table, size_t words, uint64_t key, uint32_t *restrict seat,
-                    uint32_t *restrict server, uint32_t *restrict draws)
+/* Both calls below are this one, each with its own copy of it. */
+static inline __attribute__((always_inline)) uint32_t found(const uint32_t *table, size_t words, uint64_t key,
+                                                            uint32_t *seat, uint32_t *server, uint32_t *draws,
+                                                            uint32_t *walks)
 {
     if (!legal(table, words))
         return SIZE;
     PARTS(const, table);
-    uint32_t b = (uint32_t)(output(1, key) % a), taken = 1, bound;
+    uint32_t b = (uint32_t)(output(1, key) % a), taken = 1, walked = 0, bound;
     while ((bound = A[b]) != 0) {
         uint32_t h = (uint32_t)(output((uint64_t)b + 1, key) % bound), left = a;
         for (;;) {
@@ -50,13 +52,28 @@ uint32_t CALL(find)(const uint32_t *restrict table, size_t words, uint64_t key, 
         }
         b = h;
         taken++;
+        walked += a - left;
     }
     if (S[b] == 0)
         return DAMAGED;
     *seat = b;
     *server = S[b];
     *draws = taken;
+    *walks = walked;
     return 0;
+}
+
+uint32_t CALL(find)(const uint32_t *restrict table, size_t words, uint64_t key, uint32_t *restrict seat,
+                    uint32_t *restrict server, uint32_t *restrict draws)
+{
+    uint32_t walks;
+    return found(table, words, key, seat, server, draws, &walks);
+}
+
+uint32_t CALL(find_walks)(const uint32_t *restrict table, size_t words, uint64_t key, uint32_t *restrict seat,
+                          uint32_t *restrict server, uint32_t *restrict draws, uint32_t *restrict walks)
+{
+    return found(table, words, key, seat, server, draws, walks);
 }
 
 /* A key's way followed as if every table were sound: no SIZE, no DAMAGED. */

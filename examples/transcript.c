@@ -23,10 +23,10 @@ static void must(const char *what, uint32_t answer)
 static void look_up(const uint32_t *table, uint32_t was[KEYS])
 {
     for (uint64_t key = 0; key < KEYS; key++) {
-        uint32_t seat, server, draws;
-        must("find", steamacorn_find(table, STEAMACORN_WORDS(SEATS), key, &seat, &server, &draws));
-        printf("  key %" PRIu64 ": seat %" PRIu32 ", server %" PRIu32 ", draws %" PRIu32 "%s\n", key, seat, server,
-               draws, was[key] != 0 && was[key] != server ? ", moved" : "");
+        uint32_t seat, server, draws, walks;
+        must("find", steamacorn_find_walks(table, STEAMACORN_WORDS(SEATS), key, &seat, &server, &draws, &walks));
+        printf("  key %" PRIu64 ": seat %" PRIu32 ", server %" PRIu32 ", draws %" PRIu32 ", walks %" PRIu32 "%s\n", key,
+               seat, server, draws, walks, was[key] != 0 && was[key] != server ? ", moved" : "");
         was[key] = server;
     }
 }

@@ -93,12 +93,27 @@ uint32_t steamacorn_out(uint32_t *STEAMACORN_RESTRICT table, size_t words, uint3
  * Finds the server for a key.
  * Lent: table, words long, only read.
  * Written: *seat and *server, where the key is; *draws, the hashes taken, at most 1 + (a - N) on a sound table.
- * Refusals: SIZE (as above), DAMAGED (the way to a server leaves the table, would follow more than a successors at one
- * redraw, or ends in a seat without a server). A sound table is never DAMAGED, but not every other table is: see audit.
+ * Refusals: SIZE (as above), DAMAGED (the way to a server leaves the table, would follow more than a successors after
+ * one hash, or ends in a seat without a server). A sound table is never DAMAGED, but not every other table is: see
+ * audit.
  */
 uint32_t steamacorn_find(const uint32_t *STEAMACORN_RESTRICT table, size_t words, uint64_t key,
                          uint32_t *STEAMACORN_RESTRICT seat, uint32_t *STEAMACORN_RESTRICT server,
                          uint32_t *STEAMACORN_RESTRICT draws);
+
+/*
+ * Finds the server for a key, and tells how far the lookup walked. A seat that is out of use has a successor, the seat
+ * that took its place when it left; after each hash but the first the lookup goes from successor to successor. The
+ * more seats are spare, the more draws and walks keys take on average.
+ * Lent: table, words long, only read.
+ * Written: *seat, *server and *draws, as by steamacorn_find; *walks, how many successors were followed, after all
+ * hashes together. After one hash they are at most a - N on a sound table: so *walks is at most (*draws - 1)(a - N),
+ * and 0 where no seat is out of use. On any table *draws is at most a, and *walks at most a(a - 1).
+ * Refusals: SIZE, DAMAGED (as for steamacorn_find).
+ */
+uint32_t steamacorn_find_walks(const uint32_t *STEAMACORN_RESTRICT table, size_t words, uint64_t key,
+                               uint32_t *STEAMACORN_RESTRICT seat, uint32_t *STEAMACORN_RESTRICT server,
+                               uint32_t *STEAMACORN_RESTRICT draws, uint32_t *STEAMACORN_RESTRICT walks);
 
 /*
  * Tells whether a table is sound.

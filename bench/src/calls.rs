@@ -5,6 +5,7 @@ use steamacorn::ffi;
 /// Each call answers its values; a refusal ends the run, as all that is measured is accepted.
 pub trait Calls {
     fn find(table: &[u32], key: u64) -> (u32, u32, u32);
+    fn find_walks(table: &[u32], key: u64) -> (u32, u32, u32, u32);
     fn out(table: &mut [u32], id: u32) -> u32;
     fn seat(table: &mut [u32], id: u32) -> u32;
     fn audit(table: &[u32]);
@@ -39,12 +40,19 @@ fn fine(number: u32) {
 
 /// Calls over C's signatures: pointers and lengths are those of slices, which are valid and do not overlap.
 macro_rules! over_pointers {
-    ($who:ty, $find:path, $out:path, $seat:path, $audit:path, $save:path, $load:path, $key:path) => {
+    ($who:ty, $find:path, $find_walks:path, $out:path, $seat:path, $audit:path, $save:path, $load:path, $key:path) => {
         impl Calls for $who {
             fn find(table: &[u32], key: u64) -> (u32, u32, u32) {
                 let (mut seat, mut server, mut draws) = (0, 0, 0);
                 fine(unsafe { $find(table.as_ptr(), table.len(), key, &mut seat, &mut server, &mut draws) });
                 (seat, server, draws)
+            }
+
+            fn find_walks(table: &[u32], key: u64) -> (u32, u32, u32, u32) {
+                let (mut seat, mut server, mut draws, mut walks) = (0, 0, 0, 0);
+                let (t, words) = (table.as_ptr(), table.len());
+                fine(unsafe { $find_walks(t, words, key, &mut seat, &mut server, &mut draws, &mut walks) });
+                (seat, server, draws, walks)
             }
 
             fn out(table: &mut [u32], id: u32) -> u32 {
@@ -85,6 +93,7 @@ macro_rules! over_pointers {
 over_pointers!(
     Library,
     ffi::steamacorn_find,
+    ffi::steamacorn_find_walks,
     ffi::steamacorn_out,
     ffi::steamacorn_seat,
     ffi::steamacorn_audit,
@@ -95,9 +104,18 @@ over_pointers!(
 
 /// A compiler's baseline.c: its functions, by its names for them.
 macro_rules! baseline {
-    ($who:ty, $find:ident, $bare_find:ident, $out:ident, $seat:ident, $bare_out:ident, $bare_seat:ident, $audit:ident, $save:ident, $load:ident, $key:ident) => {
+    ($who:ty, $find:ident, $find_walks:ident, $bare_find:ident, $out:ident, $seat:ident, $bare_out:ident, $bare_seat:ident, $audit:ident, $save:ident, $load:ident, $key:ident) => {
         extern "C" {
             fn $find(t: *const u32, words: usize, key: u64, seat: *mut u32, server: *mut u32, draws: *mut u32) -> u32;
+            fn $find_walks(
+                t: *const u32,
+                words: usize,
+                key: u64,
+                seat: *mut u32,
+                server: *mut u32,
+                draws: *mut u32,
+                walks: *mut u32,
+            ) -> u32;
             fn $bare_find(t: *const u32, n: usize, key: u64, seat: *mut u32, server: *mut u32, draws: *mut u32) -> u32;
             fn $out(table: *mut u32, words: usize, id: u32, seat: *mut u32) -> u32;
             fn $seat(table: *mut u32, words: usize, id: u32, seat: *mut u32) -> u32;
@@ -109,7 +127,7 @@ macro_rules! baseline {
             fn $key(packet: *const u8, bytes: usize, key: *mut u8, key_bytes: usize) -> u32;
         }
 
-        over_pointers!($who, $find, $out, $seat, $audit, $save, $load, $key);
+        over_pointers!($who, $find, $find_walks, $out, $seat, $audit, $save, $load, $key);
 
         impl Bare for $who {
             fn bare_find(table: &[u32], key: u64) -> (u32, u32, u32) {
@@ -131,6 +149,7 @@ macro_rules! baseline {
 baseline!(
     InGcc,
     gcc_find,
+    gcc_find_walks,
     gcc_bare_find,
     gcc_out,
     gcc_seat,
@@ -145,6 +164,7 @@ baseline!(
 baseline!(
     InClang,
     clang_find,
+    clang_find_walks,
     clang_bare_find,
     clang_out,
     clang_seat,
@@ -159,6 +179,10 @@ baseline!(
 impl Calls for InRust {
     fn find(table: &[u32], key: u64) -> (u32, u32, u32) {
         safe::find(table, key).expect("accepted")
+    }
+
+    fn find_walks(table: &[u32], key: u64) -> (u32, u32, u32, u32) {
+        safe::find_walks(table, key).expect("accepted")
     }
 
     fn out(table: &mut [u32], id: u32) -> u32 {

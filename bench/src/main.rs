@@ -96,6 +96,39 @@ fn find_row(keys: u32) -> Row {
     row!("find", keys, C, state => look_up_all(state, C::find))
 }
 
+/// The same with the walks.
+fn walk_all(state: &mut State, find_walks: impl Fn(&[u32], u64) -> (u32, u32, u32, u32)) {
+    look_up_all(state, |table, key| {
+        let (seat, server, draws, walks) = find_walks(table, key);
+        (seat, server, draws.wrapping_add(walks))
+    });
+}
+
+/// The table of find_walks, and what it takes beside find.
+fn walks(report: &mut Report) {
+    println!("\n## find_walks, 2^20 keys in turn\n");
+    println!("| a | out of 100 | {}", COLUMNS);
+    let row = row!("find_walks", MANY, C, state => walk_all(state, C::find_walks));
+    for out_of_100 in FIND_OUT {
+        for a in SEATS {
+            let times = measured(&row, &State::new(a, out_of_100, MANY), report.row);
+            report.line(&format!("{} | {}", a, out_of_100), times);
+        }
+    }
+    println!("\nThe library's find_walks to its find:");
+    for out_of_100 in FIND_OUT {
+        let ratios = SEATS.map(|a| {
+            let [mut told, mut untold] = [(); 2].map(|_| State::new(a, out_of_100, MANY));
+            let units: &mut [&mut dyn FnMut()] = &mut [&mut || walk_all(&mut told, Library::find_walks), &mut || {
+                look_up_all(&mut untold, Library::find)
+            }];
+            let times = side_by_side(units, MANY, report.row);
+            format!("{:.2}", times[0] / times[1])
+        });
+        println!("- {} of 100 out, a = 64, 512, 2048: {}", out_of_100, ratios.join(", "));
+    }
+}
+
 /// A packet of 60 bytes: IPv4 with ports, a fragment of such, or IPv6 with ports. Its addresses are the key's.
 #[derive(Clone, Copy)]
 enum Kind {
@@ -371,6 +404,7 @@ fn main() {
     println!("\n## find, 1,024 keys again and again\n");
     println!("So few that it learns their branches by heart.\n");
     finds(&mut report, HOT, "1,024", "hot find", row);
+    walks(&mut report);
     calls_on_tables(&mut report);
     keys_of_packets(&mut report);
     println!("\nOf the rows above C was quicker by gcc in {}, and by clang in {}.", report.better[0], report.better[1]);

@@ -92,11 +92,21 @@ fn repeats(ids: &[u32]) -> bool {
 
 #[inline(never)]
 pub fn find(table: &[u32], key: u64) -> Result<(u32, u32, u32), u32> {
+    found(table, key).map(|(seat, server, draws, _)| (seat, server, draws))
+}
+
+#[inline(never)]
+pub fn find_walks(table: &[u32], key: u64) -> Result<(u32, u32, u32, u32), u32> {
+    found(table, key)
+}
+
+#[inline(always)]
+fn found(table: &[u32], key: u64) -> Result<(u32, u32, u32, u32), u32> {
     let a = seats(table)?;
     let A = &table[2..2 + a];
     let K = &table[2 + a..2 + 2 * a];
     let mut b = (output(1, key) % a as u64) as usize;
-    let mut draws = 1;
+    let (mut draws, mut walks) = (1, 0);
     while A[b] != 0 {
         let bound = A[b];
         let mut h = (output(b as u64 + 1, key) % u64::from(bound)) as usize;
@@ -110,10 +120,11 @@ pub fn find(table: &[u32], key: u64) -> Result<(u32, u32, u32), u32> {
         }
         b = h;
         draws += 1;
+        walks += (a - left) as u32;
     }
     match table[2 + 5 * a + b] {
         0 => Err(DAMAGED),
-        server => Ok((b as u32, server, draws)),
+        server => Ok((b as u32, server, draws, walks)),
     }
 }
 

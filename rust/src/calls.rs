@@ -9,6 +9,8 @@ pub struct Found {
     pub server: u32,
     /// The hashes taken: at most 1 + (a - N) on a sound table.
     pub draws: u32,
+    /// How often the redraws followed K, all together: at most a - N times each on a sound table.
+    pub walks: u32,
 }
 
 /// The values, where the number is 0.
@@ -104,11 +106,26 @@ pub fn key_of(packet: &[u8]) -> Result<u64, Refusal> {
     Ok(u64::from_be_bytes(bytes))
 }
 
-/// Finds the server for a key.
+/// Finds the server for a key, and tells how far the lookup went.
+///
+/// ```
+/// use steamacorn::{find, open, take_out, words, Found, Refusal};
+///
+/// # fn main() -> Result<(), Refusal> {
+/// let mut table = vec![0; words(2)];
+/// open(&mut table, 2, &[5, 6])?;
+/// take_out(&mut table, 5)?;
+/// // one key draws seat 1, the other seat 0: its redraw begins there, and follows K to seat 1
+/// assert_eq!(find(&table, 1)?, Found { seat: 1, server: 6, draws: 1, walks: 0 });
+/// assert_eq!(find(&table, 2)?, Found { seat: 1, server: 6, draws: 2, walks: 1 });
+/// # Ok(())
+/// # }
+/// ```
 pub fn find(table: &[u32], key: u64) -> Result<Found, Refusal> {
-    let (mut seat, mut server, mut draws) = (0, 0, 0);
-    let number = unsafe { ffi::steamacorn_find(table.as_ptr(), table.len(), key, &mut seat, &mut server, &mut draws) };
-    answer(number, Found { seat, server, draws })
+    let mut found = Found { seat: 0, server: 0, draws: 0, walks: 0 };
+    let Found { seat, server, draws, walks } = &mut found;
+    let number = unsafe { ffi::steamacorn_find_walks(table.as_ptr(), table.len(), key, seat, server, draws, walks) };
+    answer(number, found)
 }
 
 /// Whether the table is sound: what some opening and some accepted changes leave.

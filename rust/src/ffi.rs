@@ -16,6 +16,15 @@ extern "C" {
         server: *mut u32,
         draws: *mut u32,
     ) -> u32;
+    pub fn steamacorn_find_walks(
+        table: *const u32,
+        words: usize,
+        key: u64,
+        seat: *mut u32,
+        server: *mut u32,
+        draws: *mut u32,
+        walks: *mut u32,
+    ) -> u32;
     pub fn steamacorn_audit(table: *const u32, words: usize) -> u32;
     pub fn steamacorn_save(table: *const u32, words: usize, record: *mut u8, room: usize, bytes: *mut usize) -> u32;
     pub fn steamacorn_load(table: *mut u32, words: usize, record: *const u8, bytes: usize, n: *mut u32) -> u32;

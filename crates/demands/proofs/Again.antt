@@ -50,6 +50,6 @@ theorem servers ids w u v s outs-done seats-done size k =
     let start : Piled (tableOf w .bare) 0 w = record { sound = s; removals = []; size = refl; stack = empty } in
     let p = outs 0 (length servers) (omega arith) outs-done start in
     let (same, t) = seats (p .removals) seats-done (p .sound) (omega (arith, p .size)) (p .stack) in
-    let (f, was) = finds w k s in
-    let now = finds-same v k f t (ap (λ (B : Bare). rule (table B []) k) (sym same) ∙ was .ruled) in
-    rw (was .answer, now .answer) (refl, refl)
+    let (f, walks, was) = finds w k s in
+    let now = finds-same v k f walks t (ap (λ (B : Bare). rule (table B []) k) (sym same) ∙ was .ruled) in
+    rw (was .answer, now .answer) (refl, refl, refl)

@@ -12,7 +12,7 @@ use Rattle.changes.proofs.Accepted.{out-changes, seat-changes}
 use Rattle.rules.specs.Ids.{occurs, repeats}
 use Rattle.changes.specs.Calls.{openCall}
 use Rattle.find.specs.Find.{findCall}
-use Rattle.demands.specs.Hollow.{RefusesAll, DoesNothing, SeatsElsewhere, SeatsTwice, TakesAnother, KeepsId, ZeroFirst, TwoKeys, TodaysLine}
+use Rattle.demands.specs.Hollow.{RefusesAll, DoesNothing, SeatsElsewhere, SeatsTwice, TakesAnother, KeepsId, ZeroFirst, TwoKeys, TodaysLine, OwnWalks}
 use Rattle.demands.proofs.Audit as Audit
 use Rattle.demands.proofs.Keys.{every-key}
 
@@ -53,3 +53,7 @@ two-keys = (refl, refl)
 pub todays-line : TodaysLine
 unfolding findCall opened walk lookup mixed output
 todays-line = (refl, refl, refl, refl)
+
+pub own-walks : OwnWalks
+unfolding findCall opened walk lookup mixed output
+own-walks = (refl, refl, refl, refl, refl)

@@ -2,3 +2,4 @@
 pub mod Redraws
 -- Theorems.
 pub mod Tight
+pub mod Bounds

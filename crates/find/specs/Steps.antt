@@ -11,11 +11,11 @@ use Rattle.find.specs.declared.Drawn.{Drawn}
 use Rattle.find.specs.declared.Drawn.the-variants.{At, Damaged}
 
 abbrev pub walkOf : Redraw → Walk
-walkOf (To h) = at (h .0)
+walkOf (To h follows) = at (h .0) follows
 walkOf Lost = lost
 
 abbrev pub lookedOf : Drawn → Looked
-lookedOf (At b draws) = found (on (b .0) draws)
+lookedOf (At b draws walks) = found (on (b .0) draws) walks
 lookedOf Damaged = damaged
 
 -- the parts A and K of a run, and a seat of it
@@ -26,10 +26,10 @@ pub record Lookable (A K : List ℕ) (first : ℕ) : Type 0 where
 
 -- a seat of the run, where there is one
 abbrev pub Within : List ℕ → Drawn → Type 0
-Within A (At b draws) = b .0 < length A
+Within A (At b draws walks) = b .0 < length A
 Within A Damaged = Unit {0}
 
 -- the array rule on them
 pub record Looks (A K : List ℕ) (key first : ℕ) (r : Drawn) : Type 0 where
-  pub rule : lookedOf r ≡ lookup A K (pickOf key) (A ! first) 1 first
+  pub rule : lookedOf r ≡ lookup A K (pickOf key) (A ! first) 1 0 first
   pub within : Within A r

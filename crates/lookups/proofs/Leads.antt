@@ -1,13 +1,14 @@
 -- Every accepted history is a run of moves that a full table allows: first the seats unused at opening leave, and then each accepted
 -- change is an allowed move. From each position of the line just after a seat was last taken out, the walk for that seat's A ends at the
--- seat that stood there: a removal adds the line that it leaves, and neither it nor its undoing is seen by the walks for earlier ones.
-use Rattle.promises.proofs.Prelude.{_≡_, refl, _∙_, sym, ap, subst, cond, List, [], _∷_, _++_, ℕ, _-_, _<_, _+_, suc, zero, arith, ℕ-discrete, length}
+-- seat that stood there, and follows K once at the most for each seat out of use then: a removal adds the line that it leaves, and neither
+-- it nor its undoing is seen by the walks for earlier ones.
+use Rattle.promises.proofs.Prelude.{_≡_, refl, sym, subst, cond, List, [], _∷_, _++_, ℕ, _-_, _<_, _+_, suc, zero, arith, ℕ-discrete, length}
 use Rattle.promises.proofs.Prelude.{getD-take, eqb, ne-eqb, eq-eqb}
 use mathlib.Core.List.{map}
 use Rattle.rules.specs.Table.{_!_, Bare, Table}
 use Rattle.rules.specs.Changes.{down, opened, out, seat, Leaves}
 use Rattle.rules.specs.History.{Change, taking, seating, Opens, run, Accepted, done, then, Reached}
-use Rattle.rules.specs.Keys.{Move, leave, return, move, full, movesOf, line, since, at}
+use Rattle.rules.specs.Keys.{Move, leave, return, move, full, movesOf, line, since}
 use Rattle.rules.proofs.Lists.{differ}
 use Rattle.rules.proofs.Openings.{openR-out}
 use Rattle.sound.specs.Removals.{after, Takeable}
@@ -18,6 +19,7 @@ use Rattle.sound.proofs.Steps.{kept, out-passes, seat-passes, seat-leaves, out-
 use Rattle.sound.proofs.Made.{fewer-still, after-is, next-leaves}
 use Rattle.sound.proofs.Audit.{R-takeable, as-made}
 use Rattle.sound.proofs.Reached.{leaves, room, changed-passes, opened-passes}
+use Rattle.lookups.specs.FewFollows.{EndsAt}
 use Rattle.lookups.proofs.Walks.{walkIn, gone, walk-out, front}
 
 -- moves that a table allows, and the table that they lead to
@@ -65,7 +67,7 @@ history-leads r =
 
 -- l x is the line just after x was taken out
 abbrev pub Lines : Bare → (ℕ → List ℕ) → Type 0
-Lines T l = (x q : ℕ) → q < T .A ! x → walkIn T (T .A ! x) (T .seats) q ≡ at (l x ! q)
+Lines T l = (x q : ℕ) → q < T .A ! x → EndsAt (l x ! q) (T .seats - T .A ! x) (walkIn T (T .A ! x) (T .seats) 0 q)
 
 module _ {T : Bare} {b : ℕ} (g : Kept T) (v : Leaves T b) where
   abbrev T′ : Bare
@@ -75,17 +77,17 @@ module _ {T : Bare} {b : ℕ} (g : Kept T) (v : Leaves T b) where
   lines-out t l f x q h = elim (ℕ-discrete b x) [
     | yes e ↦
         let h′ : q < T .used - 1 = rw (written g v .A-at) at (rw (← e) at h) in
-        rw (eq-eqb b x e, ← e, written g v .A-at) (front T′ t q (T .seats) h′ (omega arith) ∙ ap at (sym (getD-take (T′ .used) (T′ .W) q 0 h′)))
+        rw (eq-eqb b x e, ← e, written g v .A-at) (rw (getD-take (T′ .used) (T′ .W) q 0 h′) (front T′ t q (T .seats) h′ (omega arith)))
     | no ne ↦
         let off = written g v .A-off x (λ e. ne (sym e)) in
         let h′ : q < T .A ! x = rw off at h in
-        rw (ne-eqb b x ne, off, walk-out g v (T .A ! x) (T .seats) q (gone g x (omega arith))) (f x q h′)
+        rw (ne-eqb b x ne, off, walk-out g v (T .A ! x) (T .seats) 0 q (gone g x (omega arith))) (f x q h′)
   ]
 
   lines-back : (l : ℕ → List ℕ) → Lines T′ l → Lines T l
   lines-back l f x q h =
       let off = written g v .A-off x (differ (T .A) (omega arith)) in
-      rw (← walk-out g v (T .A ! x) (T .seats) q (gone g x (omega arith))) (rw off at (f x q (rw off h)))
+      rw (← walk-out g v (T .A ! x) (T .seats) 0 q (gone g x (omega arith))) (rw off at (f x q (rw off h)))
 
 pub lines-since : {T U : Bare} {ms : List Move} → Leads T ms U → Test T → (l : ℕ → List ℕ) → Lines T l → Lines U (λ x. since x (l x) T ms)
 lines-since none t l f = f

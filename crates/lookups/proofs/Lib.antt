@@ -7,4 +7,5 @@ pub mod EveryTable
 pub mod BothRules
 pub mod InUse
 pub mod FewDraws
+pub mod FewFollows
 pub mod Stay

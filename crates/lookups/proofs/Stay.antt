@@ -13,25 +13,26 @@ use Rattle.rules.proofs.Walks.{lookup-here}
 use Rattle.lookups.proofs.Walks.{walkIn, gone, length-out, walk-out}
 
 abbrev Either : ℕ → Looked → Looked → Type 0
-Either b with without = (without ≡ with) ⊎ ((d : ℕ) × (with ≡ found (on b d)))
+Either b with without = (without ≡ with) ⊎ ((d f : ℕ) × (with ≡ found (on b d) f))
 
 module _ {T : Bare} {b : ℕ} (g : Kept T) (v : Leaves T b) (pick : ℕ → ℕ → ℕ) where
-  abbrev from : Bare → ℕ → ℕ → ℕ → Looked
-  from U fuel d x = lookup (U .A) (U .K) pick fuel d x
+  abbrev from : Bare → ℕ → ℕ → ℕ → ℕ → Looked
+  from U fuel d f x = lookup (U .A) (U .K) pick fuel d f x
 
-  lookup-out : (fuel d x : ℕ) → Either b (from T fuel d x) (from (out T b) fuel d x)
+  lookup-out : (fuel d f x : ℕ) → Either b (from T fuel d f x) (from (out T b) fuel d f x)
   unfolding lookup
-  lookup-out zero d x = inl refl
-  lookup-out (suc fuel) d x = elim (ℕ-discrete x b) [
-    | yes e ↦ inr (d, rw (e, v .inUse))
+  lookup-out zero d f x = inl refl
+  lookup-out (suc fuel) d f x = elim (ℕ-discrete x b) [
+    | yes e ↦ inr (d, f, rw (e, v .inUse))
     | no nb ↦ elim (ℕ-discrete (T .A ! x) 0) [
       | yes z ↦ inl (rw (written g v .A-off x nb, z))
       | no ne ↦
           let m = T .A ! x in
           let a = length (T .A) in
-          rw (written g v .A-off x nb, ne-eqb m 0 ne, length-out g v, walk-out g v m a (pick x m) (gone g x ne))
-          (elim (walkIn T m a (pick x m)) as (λ e. Either b (onward e (from T fuel (d + 1))) (onward e (from (out T b) fuel (d + 1)))) [
-            | at y ↦ lookup-out fuel (d + 1) y
+          rw (written g v .A-off x nb, ne-eqb m 0 ne, length-out g v, walk-out g v m a 0 (pick x m) (gone g x ne))
+          (elim (walkIn T m a 0 (pick x m))
+          as (λ e. Either b (onward e (λ y n. from T fuel (d + 1) (f + n) y)) (onward e (λ y n. from (out T b) fuel (d + 1) (f + n) y))) [
+            | at y n ↦ lookup-out fuel (d + 1) (f + n) y
             | lost ↦ inl refl
           ])
     ]
@@ -40,14 +41,14 @@ module _ {T : Bare} {b : ℕ} (g : Kept T) (v : Leaves T b) (pick : ℕ → ℕ 
   pub only-on : (first : ℕ) → OnlyOn b (arrayRule T pick first) (arrayRule (out T b) pick first)
   only-on first =
       let r : Either b (arrayRule T pick first) (arrayRule (out T b) pick first) = elim (ℕ-discrete first b) [
-        | yes e ↦ inr (1, rw e (lookup-here (T .A) (T .K) pick (T .A ! b) 1 b (v .inUse)))
-        | no nb ↦ rw (written g v .A-off first nb) (lookup-out (T .A ! first) 1 first)
+        | yes e ↦ inr (1, 0, rw e (lookup-here (T .A) (T .K) pick (T .A ! b) 1 0 b (v .inUse)))
+        | no nb ↦ rw (written g v .A-off first nb) (lookup-out (T .A ! first) 1 0 first)
       ] in
       record {
         either = r;
-        others = λ x d ne p. elim r [
+        others = λ x d f ne p. elim r [
           | inl e ↦ e ∙ p
-          | inr e ↦ let same : on x d ≡ on b (e .0) = cc (e .1) in absurd (ne (ap (λ (f : Found). f .seat) same))
+          | inr e ↦ let same : on x d ≡ on b (e .0) = cc (e .2) in absurd (ne (ap (λ (f : Found). f .seat) same))
         ];
       }
 

@@ -1,7 +1,8 @@
 -- Walks along K, before and after a change. Taking b out is not seen by a walk for m if fewer than m are in use then: it stops at b
 -- before and after. And a walk from a position of the line ends at the seat that stands there: in a full table no step is taken, and when
--- b leaves, the walk that ended at b goes on by K to the seat that takes its place, and the others end as they did.
-use Rattle.promises.proofs.Prelude.{_≡_, _∙_, sym, ap, subst, _≢_, List, ℕ, _-_, _≤_, _<_, suc, zero, arith, ℕ-discrete, decLt, length, length-set}
+-- b leaves, the walk that ended at b goes on by K to the seat that takes its place, and the others end as they did. So it follows K once
+-- for each seat out of use at the most.
+use Rattle.promises.proofs.Prelude.{_≡_, _∙_, sym, ap, subst, _≢_, List, ℕ, _-_, _≤_, _<_, _+_, suc, zero, arith, ℕ-discrete, decLt, length, length-set}
 use lib.ListN.{List·getD-eq-default}
 use Rattle.rules.specs.Table.{_!_, Bare}
 use Rattle.rules.specs.Changes.{out, Leaves}
@@ -15,10 +16,11 @@ use Rattle.sound.proofs.Written.{Written, written}
 use Rattle.sound.proofs.KeptOut.{kept-full, kept-out}
 use Rattle.sound.proofs.Made.{fewer-still, after-is, next-leaves}
 use Rattle.sound.proofs.Audit.{R-takeable, as-made}
+use Rattle.lookups.specs.FewFollows.{EndsAt}
 
 -- the walk of a table
-abbrev pub walkIn : Bare → ℕ → ℕ → ℕ → Walk
-walkIn T m fuel h = walk (T .A) (T .K) m fuel h
+abbrev pub walkIn : Bare → ℕ → ℕ → ℕ → ℕ → Walk
+walkIn T m fuel n h = walk (T .A) (T .K) m fuel n h
 
 -- a seat out of use was taken out when no fewer were in use than now
 pub gone : {T : Bare} → Kept T → (x : ℕ) → T .A ! x ≢ 0 → T .used ≤ T .A ! x
@@ -29,18 +31,18 @@ gone {T} g x ne = elim (decLt x (T .seats)) [
 
 -- a walk follows K once for each removal at most
 abbrev pub Front : Bare → Type 0
-Front T = (q fuel : ℕ) → q < T .used → T .seats - T .used ≤ fuel → walkIn T (T .used) fuel q ≡ at (T .W ! q)
+Front T = (q fuel : ℕ) → q < T .used → T .seats - T .used ≤ fuel → EndsAt (T .W ! q) (T .seats - T .used) (walkIn T (T .used) fuel 0 q)
 
 -- it stops at a seat of the line
-stands : {T : Bare} → Kept T → (q fuel : ℕ) → q < T .used → walkIn T (T .used) fuel (T .W ! q) ≡ at (T .W ! q)
-stands {T} g q fuel h =
+stands : {T : Bare} → Kept T → (q fuel n : ℕ) → q < T .used → walkIn T (T .used) fuel n (T .W ! q) ≡ at (T .W ! q) n
+stands {T} g q fuel n h =
     let l = g .line q h in
-    walk-stops (T .A) (T .K) (T .used) fuel (T .W ! q) (omega (arith, g .shape .lenA)) (omega arith)
+    walk-stops (T .A) (T .K) (T .used) fuel n (T .W ! q) (omega (arith, g .shape .lenA)) (omega arith)
 
 front-full : (a : ℕ) → 1 ≤ a → Front (full a)
 front-full a h q fuel l m =
     let own : full a .W ! q ≡ q = own-at a q l in
-    rw own (rw own at (stands (kept-full a h) q fuel l))
+    record { follows = 0; is = rw own (rw own at (stands (kept-full a h) q fuel 0 l)); few = omega arith }
 
 module _ {T : Bare} {b : ℕ} (g : Kept T) (v : Leaves T b) where
   abbrev T′ : Bare
@@ -53,49 +55,55 @@ module _ {T : Bare} {b : ℕ} (g : Kept T) (v : Leaves T b) where
   length-out = length-set (T .A) b _
 
   -- both stop at b
-  at-b : (m fuel : ℕ) → T .used ≤ m → walkIn T′ m fuel b ≡ walkIn T m fuel b
-  at-b m fuel l =
+  at-b : (m fuel n : ℕ) → T .used ≤ m → walkIn T′ m fuel n b ≡ walkIn T m fuel n b
+  at-b m fuel n l =
       let i : b < length (T .A) = omega (arith, g .shape .lenA) in
-      walk-stops (T′ .A) (T′ .K) m fuel b (rw length-out i) (rw (w .A-at) (omega arith))
-      ∙ sym (walk-stops (T .A) (T .K) m fuel b i (rw (v .inUse) (omega arith)))
+      walk-stops (T′ .A) (T′ .K) m fuel n b (rw length-out i) (rw (w .A-at) (omega arith))
+      ∙ sym (walk-stops (T .A) (T .K) m fuel n b i (rw (v .inUse) (omega arith)))
 
-  pub walk-out : (m fuel h : ℕ) → T .used ≤ m → walkIn T′ m fuel h ≡ walkIn T m fuel h
+  pub walk-out : (m fuel n h : ℕ) → T .used ≤ m → walkIn T′ m fuel n h ≡ walkIn T m fuel n h
   unfolding walk
-  walk-out m zero h l = elim (ℕ-discrete h b) [ yes e ↦ rw e (at-b m zero l) | no ne ↦ rw (length-out, w .A-off h ne) ]
-  walk-out m (suc fuel) h l = elim (ℕ-discrete h b) [
-    | yes e ↦ rw e (at-b m (suc fuel) l)
-    | no ne ↦ rw (length-out, w .A-off h ne, w .K-off h ne, walk-out m fuel (T .K ! h) l)
+  walk-out m zero n h l = elim (ℕ-discrete h b) [ yes e ↦ rw e (at-b m zero n l) | no ne ↦ rw (length-out, w .A-off h ne) ]
+  walk-out m (suc fuel) n h l = elim (ℕ-discrete h b) [
+    | yes e ↦ rw e (at-b m (suc fuel) n l)
+    | no ne ↦ rw (length-out, w .A-off h ne, w .K-off h ne, walk-out m fuel (n + 1) (T .K ! h) l)
   ]
 
-  -- with b out, a walk for the line that is left goes where that for the line before went, to x, and on from there
-  pub walk-on : {x y : ℕ} (fuel h : ℕ) → walkIn T (T .used) fuel h ≡ at x → ((i : ℕ) → walkIn T′ (T .used - 1) (suc i) x ≡ at y)
-      → walkIn T′ (T .used - 1) (suc fuel) h ≡ at y
-  walk-on zero h e on = elim (comes-zero (T .A) (T .K) (T .used) h e) [ stops l i k ↦ rw k (on zero) | goes l i k ↦ absurd (never k) ]
-  walk-on (suc fuel) h e on = elim (comes-suc (T .A) (T .K) (T .used) fuel h e) [
-    | stops l i k ↦ rw k (on (suc fuel))
+  -- with b out, a walk for the line that is left goes where that for the line before went, to x after e, and on from there
+  pub walk-on : {x y e most : ℕ} (fuel n h : ℕ) → walkIn T (T .used) fuel n h ≡ at x e
+      → ((i : ℕ) → EndsAt y most (walkIn T′ (T .used - 1) (suc i) e x)) → EndsAt y most (walkIn T′ (T .used - 1) (suc fuel) n h)
+  walk-on zero n h e on = elim (comes-zero (T .A) (T .K) (T .used) n h e) [ stops l i k c ↦ rw (k, c) (on zero) | goes l i k ↦ absurd (never k) ]
+  walk-on (suc fuel) n h e on = elim (comes-suc (T .A) (T .K) (T .used) fuel n h e) [
+    | stops l i k c ↦ rw (k, c) (on (suc fuel))
     | goes l i k ↦
         let nb : h ≢ b = differ (T .A) (omega arith) in
-        walk-goes (T′ .A) (T′ .K) (T .used - 1) (suc fuel) h (rw length-out i) (rw (w .A-off h nb) (omega arith))
-        ∙ rw (w .K-off h nb) (walk-on fuel (T .K ! h) k on)
+        rw (walk-goes (T′ .A) (T′ .K) (T .used - 1) (suc fuel) n h (rw length-out i) (rw (w .A-off h nb) (omega arith)), w .K-off h nb)
+        (walk-on fuel (n + 1) (T .K ! h) k on)
   ]
 
-  -- from who stood at q to who stands there
-  onward : (q fuel : ℕ) → q < T .used - 1 → walkIn T′ (T .used - 1) (suc fuel) (T .W ! q) ≡ at (T′ .W ! q)
-  onward q fuel h =
+  -- from who stood at q to who stands there: by one follow at the most
+  onward : (q fuel n : ℕ) → q < T .used - 1 → EndsAt (T′ .W ! q) (n + 1) (walkIn T′ (T .used - 1) (suc fuel) n (T .W ! q))
+  onward q fuel n h =
       let there = stands (kept-out g v) q in
       elim (ℕ-discrete q (w .position)) [
-        | no ne ↦ rw (← w .W-off q ne) (there (suc fuel) h)
+        | no ne ↦ record { follows = n; is = rw (← w .W-off q ne) (there (suc fuel) n h); few = omega arith }
         | yes e ↦
             let was : T .W ! q ≡ b = cc (w .there) in
             let now : T′ .W ! q ≡ T′ .K ! b = cc (w .W-at, w .K-at) in
-            rw was (walk-goes (T′ .A) (T′ .K) (T .used - 1) fuel b (simp length-set (omega (arith, g .shape .lenA))) (rw (w .A-at) (omega arith)))
-            ∙ ap (walkIn T′ (T .used - 1) fuel) (sym now)
-            ∙ there fuel h
+            let goes = walk-goes (T′ .A) (T′ .K) (T .used - 1) fuel n b (simp length-set (omega (arith, g .shape .lenA))) (rw (w .A-at) (omega arith)) in
+            record {
+              follows = n + 1;
+              is = rw was goes ∙ ap (walkIn T′ (T .used - 1) fuel (n + 1)) (sym now) ∙ there fuel (n + 1) h;
+              few = omega arith;
+            }
       ]
 
   front-out : Front T → Front T′
   front-out f q zero h l = absurd (omega (arith, g .shape .most))
-  front-out f q (suc fuel) h l = walk-on fuel q (f q fuel (omega arith) (omega (arith, g .shape .most))) (λ i. onward q i h)
+  front-out f q (suc fuel) h l =
+      let was = f q fuel (omega arith) (omega (arith, g .shape .most)) in
+      let now = walk-on {e = was .follows} {most = was .follows + 1} fuel 0 q (was .is) (λ i. onward q i (was .follows) h) in
+      record { follows = now .follows; is = now .is; few = omega (arith, now .few, was .few, g .shape .most) }
 
 front-after : (a : ℕ) (rs : List ℕ) (k : ℕ) → Takeable a rs k → Front (after a rs k)
 unfolding after

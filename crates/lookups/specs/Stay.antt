@@ -11,9 +11,9 @@ use Rattle.rules.specs.Keys.{Looked, found, on, arrayRule}
 -- a key's answer with seat b in use, and its answer with b out of use
 pub record OnlyOn (b : ℕ) (with without : Looked) : Type 0 where
   -- they are the same, or the key is on b
-  pub either : (without ≡ with) ⊎ ((d : ℕ) × (with ≡ found (on b d)))
-  -- so a key that is on another seat keeps its seat and its draws
-  pub others : (x d : ℕ) → x ≢ b → with ≡ found (on x d) → without ≡ found (on x d)
+  pub either : (without ≡ with) ⊎ ((d walks : ℕ) × (with ≡ found (on b d) walks))
+  -- so a key that is on another seat keeps its seat, its draws and its walks
+  pub others : (x d walks : ℕ) → x ≢ b → with ≡ found (on x d) walks → without ≡ found (on x d) walks
 
 -- b is in use before it is taken out
 abbrev pub TakingOutKeeps : Type 0

@@ -1,6 +1,7 @@
 -- Theorems.
 pub mod WorkedExamples
 pub mod Undo
+pub mod Follows
 -- Laws of lists, runs, parts and openings.
 pub mod Lists
 pub mod Parts

@@ -4,7 +4,7 @@ use Prim.Native.Nat.{ℕ}
 use Rattle.rules.specs.Table.{_!_, Bare, Table}
 use Rattle.rules.specs.Changes.{count, opened, lastOut}
 use Rattle.rules.specs.History.{Opens, Change, taking, seating, run, Accepted}
-use Rattle.rules.specs.Keys.{full, line, movesOf, since, draw, setRule, Looked, found, damaged, walk, lookup, arrayRule}
+use Rattle.rules.specs.Keys.{full, line, movesOf, since, Found, draw, setRule, at, lost, Looked, found, damaged, walk, redraw, lookup, arrayRule}
 
 -- a table of a seats, opened all in use with the ids 11, 12, .., and a history from there
 abbrev pub after : ℕ → List Change → Table
@@ -42,14 +42,24 @@ abbrev pub stood : ℕ → ℕ → ℕ
 stood b p = since b [] (full 7) (movesOf 7 (count 7 11) h3) ! p
 
 -- the seat and the draws, by both rules, where every redraw picks p
+abbrev pub seatAndDraws : Found → List ℕ
+seatAndDraws f = f .seat ∷ f .draws ∷ []
+
 abbrev pub told : Looked → List ℕ
-told (found f) = f .seat ∷ f .draws ∷ []
+told (found f walks) = seatAndDraws f
 told damaged = []
 
 abbrev pub both : ℕ → List Change → ℕ → ℕ → List (List ℕ)
 both a h first p =
     let T = after a h .bare in
-    told (found (setRule T (movesOf a (count a 11) h) (λ b n. p) first)) ∷ told (arrayRule T (λ b n. p) first) ∷ []
+    seatAndDraws (setRule T (movesOf a (count a 11) h) (λ b n. p) first) ∷ told (arrayRule T (λ b n. p) first) ∷ []
+
+-- the redraw at seat b that picks p, in E3's state: the seat where it ends, and its follows; and the walks of all from b on
+abbrev pub redrawn : ℕ → ℕ → List ℕ
+redrawn b p = elim (redraw (after 7 h3 .bare .A) (after 7 h3 .bare .K) (λ c n. p) b) [ at x n ↦ x ∷ n ∷ [] | lost ↦ [] ]
+
+abbrev pub walksFrom : ℕ → ℕ → List ℕ
+walksFrom b p = elim (arrayRule (after 7 h3 .bare) (λ c n. p) b) [ found f walks ↦ walks ∷ [] | damaged ↦ [] ]
 
 -- every word but the ids, a list for each part, and N
 abbrev pub bareWords : Bare → List (List ℕ)
@@ -82,6 +92,10 @@ examples =
     ∷ case ((stood 5 1 ∷ []) ∷ (stood 1 1 ∷ []) ∷ (stood 4 1 ∷ []) ∷ []) ((1 ∷ []) ∷ (4 ∷ []) ∷ (2 ∷ []) ∷ [])
     -- E7
     ∷ case (both 7 h3 5 1) ((2 ∷ 4 ∷ []) ∷ (2 ∷ 4 ∷ []) ∷ [])
+    -- E7's walks (request 2/13), by hand: A is 3 4 0 0 2 5 6 and K is 3 4 2 3 2 5 6. From seat 5, whose A is 5, position 1 has A = 4 and is where it ends.
+    -- From seat 1, whose A is 4, position 1 does not end it: K[1] is 4, which has A = 2. From seat 4, whose A is 2, position 1 leads to 4 and on to K[4],
+    -- which is 2, in use.
+    ∷ case (redrawn 5 1 ∷ redrawn 1 1 ∷ redrawn 4 1 ∷ walksFrom 5 1 ∷ []) ((1 ∷ 0 ∷ []) ∷ (4 ∷ 1 ∷ []) ∷ (2 ∷ 2 ∷ []) ∷ (3 ∷ []) ∷ [])
     -- E8
     ∷ case ((lastOut E3 ∷ []) ∷ bareWords E8) ((4 ∷ []) ∷ bareWords E2)
     -- E9

@@ -79,43 +79,47 @@ module _ (T : Bare) (ms : List Move) (pick : ℕ → ℕ → ℕ) where
 
 -- By the arrays, on any table: from seat b the walk begins at h, the position drawn, read as a seat, and follows K while A[h] >= A[b]. It is lost, which
 -- is DAMAGED, where h is a or more, or where it followed K a times and would again. (That the final seat has no server is the third occasion: crate
--- `find`.)
+-- `find`.) A walk that ends tells its seat, and how often it followed K: request 2/13.
 pub data Walk : Type 0 where
-  at : ℕ → Walk
+  at : (seat follows : ℕ) → Walk
   lost : Walk
 
--- what the arrays lead to
+-- what the arrays lead to, and how often all redraws together followed K
 pub data Looked : Type 0 where
-  found : Found → Looked
+  found : Found → (walks : ℕ) → Looked
   damaged : Looked
 
 -- at h: lost where h is a or more, there where A[h] is below m, else more
-abbrev pub step : Bool → Bool → ℕ → Walk → Walk
-step false low h more = lost
-step true true h more = at h
-step true false h more = more
+abbrev pub step : Bool → Bool → Walk → Walk → Walk
+step false low there more = lost
+step true true there more = there
+step true false there more = more
 
 -- a redraw, and what follows it
-abbrev pub onward : Walk → (ℕ → Looked) → Looked
+abbrev pub onward : Walk → (ℕ → ℕ → Looked) → Looked
 onward lost next = damaged
-onward (at h) next = next h
+onward (at h n) next = next h n
 
 module _ (A K : List ℕ) where
-  -- from h: while A[h] >= m, h becomes K[h]; lost where K was followed `fuel` times and would be again
-  unfoldable pub walk : ℕ → ℕ → ℕ → Walk
-  walk m zero h = step (ltb h (length A)) (ltb (A ! h) m) h lost
-  walk m (suc fuel) h =
-      let more = walk m fuel (K ! h) in
-      step (ltb h (length A)) (ltb (A ! h) m) h more
+  -- from h, after n follows: while A[h] >= m, h becomes K[h]; lost where K was followed `fuel` times more and would be again
+  unfoldable pub walk : ℕ → ℕ → ℕ → ℕ → Walk
+  walk m zero n h = step (ltb h (length A)) (ltb (A ! h) m) (at h n) lost
+  walk m (suc fuel) n h =
+      let more = walk m fuel (n + 1) (K ! h) in
+      step (ltb h (length A)) (ltb (A ! h) m) (at h n) more
 
-  -- from seat b, after d draws: while A[b] is not 0, a redraw, which may follow K a times. A falls, so A[b] redraws are enough.
-  unfoldable pub lookup : (ℕ → ℕ → ℕ) → ℕ → ℕ → ℕ → Looked
+  -- the redraw at seat b, which may follow K a times
+  abbrev pub redraw : (ℕ → ℕ → ℕ) → ℕ → Walk
+  redraw pick b = walk (A ! b) (length A) 0 (pick b (A ! b))
+
+  -- from seat b, after d draws and f follows: while A[b] is not 0, a redraw. A falls, so A[b] redraws are enough.
+  unfoldable pub lookup : (ℕ → ℕ → ℕ) → ℕ → ℕ → ℕ → ℕ → Looked
   unfolding walk
-  lookup pick zero d b = found (on b d)
-  lookup pick (suc fuel) d b =
-      let more = onward (walk (A ! b) (length A) (pick b (A ! b))) (lookup pick fuel (d + 1)) in
-      cond (eqb (A ! b) 0) (found (on b d)) more
+  lookup pick zero d f b = found (on b d) f
+  lookup pick (suc fuel) d f b =
+      let more = onward (redraw pick b) (λ h n. lookup pick fuel (d + 1) (f + n) h) in
+      cond (eqb (A ! b) 0) (found (on b d) f) more
 
--- the seat and the draws, before its server is asked for
+-- the seat, the draws and the walks, before the seat's server is asked for
 abbrev pub arrayRule : Bare → (ℕ → ℕ → ℕ) → ℕ → Looked
-arrayRule T pick first = lookup (T .A) (T .K) pick (T .A ! first) 1 first
+arrayRule T pick first = lookup (T .A) (T .K) pick (T .A ! first) 1 0 first

@@ -5,7 +5,7 @@ ghost use Rattle.changes.specs.Calls.{openCall, seatCall, outCall};
 ghost use Rattle.find.specs.Find.{findCall};
 ghost use Rattle.packet.specs.Key.{keyCall};
 ghost use Rattle.record.specs.Calls.{saveCall, loadCall};
-ghost use Rattle.steamacorn.specs.Exports.{Told, Changes};
+ghost use Rattle.steamacorn.specs.Exports.{withoutWalks, Told, Changes};
 use audit::Audited;
 use audit::audit_table;
 use changes::Changed;
@@ -70,13 +70,36 @@ pub extern "C" fn steamacorn_find(
     server: &mut u32,
     draws: &mut u32,
 ) -> u32
-    ensures { λ r. ⌜ Told (findCall (now (table .entry)) key) (now (seat .entry) ∷ now (server .entry) ∷ now (draws .entry) ∷ []) (r, now (seat .exit) ∷ now (server .exit) ∷ now (draws .exit) ∷ []) ⌝ }
+    ensures { λ r. ⌜ Told (withoutWalks (findCall (now (table .entry)) key)) (now (seat .entry) ∷ now (server .entry) ∷ now (draws .entry) ∷ []) (r, now (seat .exit) ∷ now (server .exit) ∷ now (draws .exit) ∷ []) ⌝ }
 {
     match find_server(table, key) {
-        Lookup::On(b, id, d) => {
+        Lookup::On(b, id, d, _) => {
             *seat = b.0;
             *server = id;
             *draws = d;
+            0
+        }
+        Lookup::Refused(why) => number(why),
+    }
+}
+
+#[no_mangle]
+pub extern "C" fn steamacorn_find_walks(
+    table: &[u32],
+    key: u64,
+    seat: &mut u32,
+    server: &mut u32,
+    draws: &mut u32,
+    walks: &mut u32,
+) -> u32
+    ensures { λ r. ⌜ Told (findCall (now (table .entry)) key) (now (seat .entry) ∷ now (server .entry) ∷ now (draws .entry) ∷ now (walks .entry) ∷ []) (r, now (seat .exit) ∷ now (server .exit) ∷ now (draws .exit) ∷ now (walks .exit) ∷ []) ⌝ }
+{
+    match find_server(table, key) {
+        Lookup::On(b, id, d, f) => {
+            *seat = b.0;
+            *server = id;
+            *draws = d;
+            *walks = f;
             0
         }
         Lookup::Refused(why) => number(why),

@@ -15,7 +15,7 @@ use Rattle.transcript.specs.declared.Answered.{Answered}
 
 abbrev pub replyAnswer : Reply → Answer
 replyAnswer (reply.One v) = fine (v ∷ [])
-replyAnswer (reply.Three v w x) = fine (v ∷ w ∷ x ∷ [])
+replyAnswer (reply.Four v w x y) = fine (v ∷ w ∷ x ∷ y ∷ [])
 replyAnswer (reply.No r) = refused r
 replyAnswer reply.Unknown = lineRefused
 
@@ -27,9 +27,14 @@ valueMost = 11
 abbrev pub lineMost : ℕ → ℕ
 lineMost k = 2 + valueMost * k + 1
 
--- the bytes of the output for each byte of the input: an empty line is one byte, LF, and its answer `no 11` and LF six
+-- the bytes of the answer to a line that is not known: `no 11` and LF
+abbrev pub unknownMost : ℕ
+unknownMost = 6
+
+-- the bytes of the output for each byte of the input. A find's line has 6 bytes at the least and its answer `lineMost 4`, which is 47, at the most: within
+-- 6 * 8. An empty line is one byte, LF, and its answer 6: within 8.
 abbrev pub byteRoom : ℕ
-byteRoom = 6
+byteRoom = 8
 
 -- room for the answer to a line
 abbrev pub lineRoom : List ℕ → ℕ
@@ -38,9 +43,9 @@ lineRoom line = byteRoom * max 1 (length line)
 -- the bytes that a reply takes, at the most
 abbrev pub replyMost : Reply → ℕ
 replyMost (reply.One v) = lineMost 1
-replyMost (reply.Three v w x) = lineMost 3
+replyMost (reply.Four v w x y) = lineMost 4
 replyMost (reply.No r) = lineMost 1
-replyMost reply.Unknown = byteRoom
+replyMost reply.Unknown = unknownMost
 
 -- a reply's line is put
 pub record Puts (r : Reply) (at : ℕ) (before : List ℕ) (o : ℕ × List ℕ) : Type 0 where

@@ -20,7 +20,7 @@ lineRefused = record { number = 11; values = [] }
 abbrev pub reopened : List ℕ → Outcome → Outcome
 reopened w o = cond (eqb (o .answer .number) 0) o (record { answer = o .answer; after = w })
 
--- a lookup leaves the table
+-- a lookup leaves the table; its values are seat, server, draws and, by request 2/13, walks
 abbrev pub looked : List ℕ → ℕ → Outcome
 looked w key = record { answer = findCall w key; after = w }
 

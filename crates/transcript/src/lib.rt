@@ -39,7 +39,7 @@ pub const MOST_INPUT: usize = 4096;
 const MOST_IDS: usize = MOST_INPUT / 2;
 
 // The bytes of the output for each byte of the input: `byteRoom` of specs/Replies.
-const BYTE_ROOM: usize = 6;
+const BYTE_ROOM: usize = 8;
 
 pub const MOST_OUTPUT: usize = BYTE_ROOM * MOST_INPUT;
 
@@ -49,7 +49,7 @@ const LINE: u32 = 11;
 // What a line is answered.
 enum Reply {
     One(u32),
-    Three(u32, u32, u32),
+    Four(u32, u32, u32, u32),
     No(Refusal),
     Unknown,
 }
@@ -101,7 +101,7 @@ fn put_reply(out: &mut [u8], at: usize, reply: Reply) -> usize
 {
     match reply {
         Reply::One(v) => put_line(out, at, b"ok", &[v]),
-        Reply::Three(v, w, x) => put_line(out, at, b"ok", &[v, w, x]),
+        Reply::Four(v, w, x, y) => put_line(out, at, b"ok", &[v, w, x, y]),
         Reply::No(why) => put_line(out, at, b"no", &[number(why)]),
         Reply::Unknown => put_line(out, at, b"no", &[LINE]),
     }
@@ -123,10 +123,10 @@ fn changed(c: Changed) -> Reply
 }
 
 fn found(l: Lookup) -> Reply
-    ensures { λ r. ⌜ Short (lookupAnswer l) (lineMost 3) r ⌝ }
+    ensures { λ r. ⌜ Short (lookupAnswer l) (lineMost 4) r ⌝ }
 {
     match l {
-        Lookup::On(b, server, draws) => Reply::Three(b.0, server, draws),
+        Lookup::On(b, server, draws, walks) => Reply::Four(b.0, server, draws, walks),
         Lookup::Refused(why) => Reply::No(why),
     }
 }
@@ -173,7 +173,7 @@ fn out_in(t: &mut [u32], len: usize, id: u32) -> Answered
 
 fn find_in(t: &[u32], len: usize, key: u64) -> Answered
     requires { ⌜ len ≤ length (now t) ⌝ }
-    ensures { λ r. ⌜ After (looked (tableIn len (now (t .entry))) key) (lineMost 3) r (now (t .entry)) ⌝ }
+    ensures { λ r. ⌜ After (looked (tableIn len (now (t .entry))) key) (lineMost 4) r (now (t .entry)) ⌝ }
 {
     let reply = found(find_server(&t[..len], key));
     Answered { reply, len }

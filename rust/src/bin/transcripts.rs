@@ -52,6 +52,18 @@ fn padded(text: &str, filler: u8, length: usize) -> Vec<u8> {
     input
 }
 
+/// Out are seat 0, then the last, and so on down to seat 2, each in position 0 in its turn, and some come back. Keys are
+/// found after each change: the more seats are out, the further they walk.
+fn walks() -> Vec<u8> {
+    let seats = 16;
+    let ids: String = (1..=seats).map(|id| format!(" {}", id)).collect();
+    let outs = [1].into_iter().chain((3..=seats).rev()).map(|id| format!("out {}\n", id));
+    let changes = outs.chain((1..=6).map(|id| format!("seat {}\n", 100 + id)));
+    let finds = |place: usize| (0..20).map(move |key| format!("find {}\n", 20 * place + key)).collect::<String>();
+    let lines: String = changes.enumerate().map(|(place, change)| change + &finds(place)).collect();
+    format!("open {}{}\n{}", seats, ids, lines).into_bytes()
+}
+
 /// Each of these lines after an accepted open, with an answer behind it that shows the table.
 const LINES: [&str; 54] = [
     "",
@@ -125,6 +137,7 @@ fn cases() -> Vec<(String, Vec<u8>)> {
         ("long-line-4097", padded("open 1 5\n", b'x', 4097)),
         ("many-ids-4096", padded("open 7", b' ', 6).into_iter().chain(" 1".bytes().cycle().take(4090)).collect()),
         ("far-too-long", vec![b'\n'; 100_000]),
+        ("walks", walks()),
     ]
     .into_iter()
     .map(|(name, input)| (name.to_string(), input))

@@ -42,7 +42,7 @@ pub fn out(run: &mut [u32], id: u32) -> Result<u32, u32> {
     Ok(b)
 }
 
-/// Answers seat, server and draws.
+/// Answers seat, server, draws and walks.
 pub fn find(run: &[u32], key: u64) -> Result<Found, u32> {
     Finder::new(run)?.find(key)
 }
@@ -198,12 +198,12 @@ mod tests {
         assert_eq!(find(&[1], 0), Err(SIZE));
         assert_eq!(audit(&[1]), Err(SIZE));
         let mut run = opened(1, &[5]);
-        assert_eq!(find(&run, 9), Ok(Found { seat: 0, server: 5, draws: 1 }));
+        assert_eq!(find(&run, 9), Ok(Found { seat: 0, server: 5, draws: 1, walks: 0 }));
         assert_eq!(audit(&run), Ok(()));
         run[1] = 2;
         assert_eq!(audit(&run), Err(DAMAGED));
         // find does not read N
-        assert_eq!(find(&run, 9), Ok(Found { seat: 0, server: 5, draws: 1 }));
+        assert_eq!(find(&run, 9), Ok(Found { seat: 0, server: 5, draws: 1, walks: 0 }));
         run[7] = 0;
         assert_eq!(find(&run, 9), Err(DAMAGED));
     }

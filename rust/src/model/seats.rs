@@ -1,5 +1,6 @@
-//! Document 01, "The line program `seats`".
+//! Document 01, "The line program `seats`", with the fourth number of document 02, "Show how far a lookup walked".
 use super::calls;
+use super::find::Found;
 use super::numbers::{LINE, ROOM};
 use super::parts::{run_length, MOST_SEATS};
 
@@ -51,7 +52,10 @@ fn run(table: &mut Vec<u32>, line: &[u8]) -> Result<Vec<u32>, u32> {
         }
         Line::Seat(id) => Ok(vec![calls::seat(table, id)?]),
         Line::Out(id) => Ok(vec![calls::out(table, id)?]),
-        Line::Find(key) => calls::find(table, key).map(|found| vec![found.seat, found.server, found.draws]),
+        Line::Find(key) => {
+            let Found { seat, server, draws, walks } = calls::find(table, key)?;
+            Ok(vec![seat, server, draws, walks])
+        }
     }
 }
 
@@ -142,9 +146,17 @@ mod tests {
         assert_eq!(output(b"open 2048 4294967295\nout 4294967295\nseat 0\n"), "ok 1\nno 8\nno 3\n");
         assert_eq!(
             output(b"open 1 4294967295\nfind 18446744073709551615\nfind 0\n"),
-            "ok 1\nok 0 4294967295 1\nok 0 4294967295 1\n"
+            "ok 1\nok 0 4294967295 1 0\nok 0 4294967295 1 0\n"
         );
         assert_eq!(output(b"open 1 5 6\nopen 2 5 5\n"), "no 2\nno 4\n");
+    }
+
+    /// K leads from seat 0 over 3 and 2 to 1. One key draws seat 2 first, and then position 0 of 1; the other seat 1.
+    #[test]
+    fn finds_tell_their_walks() {
+        let changes = "open 4 11 12 13 14\nout 11\nout 14\nout 13\n";
+        let told = output((changes.to_string() + "find 2\nfind 1\n").as_bytes());
+        assert_eq!(told, "ok 4\nok 0\nok 3\nok 2\nok 1 12 2 3\nok 1 12 1 0\n");
     }
 
     #[test]

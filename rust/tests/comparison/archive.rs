@@ -1,19 +1,25 @@
 //! The archive in the library's place.
 use crate::compare::Same;
 use crate::library::{Answer, Library, UNWRITTEN};
-use crate::{changes, damage, edges, examples, histories, keys, lookups, packets, records};
+use crate::{changes, damage, edges, examples, histories, keys, lookups, packets, records, walks};
 use std::sync::mpsc::{self, RecvTimeoutError};
 use std::thread;
 use std::time::Duration;
 use steamacorn::ffi::*;
-use steamacorn::Refusal;
+use steamacorn::{Found, Refusal};
 
 /// The archive's functions as C calls them. A value that no call wrote is told as it was.
 struct Archive;
 
 const WORD: u32 = UNWRITTEN as u32;
 
-// SAFETY, in all eight: pointers and lengths are those of slices, which are valid and do not overlap
+/// Four values between two words that were not lent.
+fn between_guards(number: u32, [before, values @ .., after]: [u32; 6]) -> Answer {
+    assert_eq!((before, after), (WORD, WORD), "beside the values");
+    Answer { number, ..Answer::fine(&values.map(u64::from)) }
+}
+
+// SAFETY, in all nine: pointers and lengths are those of slices, which are valid and do not overlap
 impl Library for Archive {
     fn open(&self, table: &mut [u32], a: u32, ids: &mut [u32]) -> Answer {
         let mut n = WORD;
@@ -35,10 +41,17 @@ impl Library for Archive {
     }
 
     fn find(&self, table: &mut [u32], key: u64) -> Answer {
-        let (mut seat, mut server, mut draws) = (WORD, WORD, WORD);
-        let number =
-            unsafe { steamacorn_find(table.as_mut_ptr(), table.len(), key, &mut seat, &mut server, &mut draws) };
-        Answer { number, ..Answer::fine(&[seat.into(), server.into(), draws.into()]) }
+        let mut words = [WORD; 6]; // three are lent
+        let [_, seat, server, draws, _, _] = &mut words;
+        let number = unsafe { steamacorn_find(table.as_mut_ptr(), table.len(), key, seat, server, draws) };
+        between_guards(number, words)
+    }
+
+    fn find_walks(&self, table: &mut [u32], key: u64) -> Answer {
+        let mut words = [WORD; 6]; // four are lent
+        let [_, seat, server, draws, walks, _] = &mut words;
+        let number = unsafe { steamacorn_find_walks(table.as_mut_ptr(), table.len(), key, seat, server, draws, walks) };
+        between_guards(number, words)
     }
 
     fn audit(&self, table: &mut [u32]) -> Answer {
@@ -86,10 +99,15 @@ impl Library for Wrapped {
         answer(steamacorn::take_out(table, id))
     }
 
+    /// One call stands for both.
     fn find(&self, table: &mut [u32], key: u64) -> Answer {
+        self.find_walks(table, key).three()
+    }
+
+    fn find_walks(&self, table: &mut [u32], key: u64) -> Answer {
         steamacorn::find(table, key).map_or_else(
             |refusal| Answer::refused(refusal.number()),
-            |found| Answer::fine(&[found.seat.into(), found.server.into(), found.draws.into()]),
+            |Found { seat, server, draws, walks }| Answer::fine(&[seat, server, draws, walks].map(u64::from)),
         )
     }
 
@@ -142,6 +160,11 @@ fn the_archive_damage() {
 #[test]
 fn the_archive_lookups() {
     passes("lookups", lookups::compare, &Archive);
+}
+
+#[test]
+fn the_archive_walks() {
+    passes("walks", walks::compare, &Archive);
 }
 
 #[test]
@@ -205,5 +228,6 @@ fn the_archive_servers() {
 #[test]
 fn the_calls_in_rusts_habits() {
     passes("edges, in Rust's habits", edges::compare, &Wrapped);
+    passes("walks, in Rust's habits", walks::compare, &Wrapped);
     passes("edges of the packet, in Rust's habits", packets::edges, &Wrapped);
 }

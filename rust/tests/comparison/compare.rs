@@ -107,10 +107,14 @@ impl<'l> Alone<'l> {
         Alone { library, calls: 0 }
     }
 
+    /// By both calls, which have to agree; the answers are those with walks.
     pub fn find(&mut self, table: &[u32], keys: &[u64]) -> Same<Vec<Answer>> {
-        self.calls += keys.len() as u64;
+        self.calls += 2 * keys.len() as u64;
         let mut lent = Lent::new(table);
-        let answers = keys.iter().map(|key| self.library.find(lent.run(), *key)).collect();
+        let answers: Vec<_> = keys.iter().map(|key| self.library.find_walks(lent.run(), *key)).collect();
+        for (key, answer) in keys.iter().zip(&answers) {
+            same(&format!("find {}", key), self.library.find(lent.run(), *key), answer.three())?;
+        }
         lent.holds(table).map_err(|difference| format!("find: {}", difference))?;
         Ok(answers)
     }
@@ -145,21 +149,28 @@ impl<'l> Comparison<'l> {
         Comparison { library, calls: 0 }
     }
 
-    /// Many keys on one table, which the model reads once. `each` is given every answer.
+    /// Many keys on one table, which the model reads once, by both calls. `each` is given every answer, with its walks.
     pub fn find(&mut self, table: &[u32], keys: impl Iterator<Item = u64>, mut each: impl FnMut(Answer)) -> Same<()> {
         let finder = Finder::new(table);
         let mut lent = Lent::new(table);
         for key in keys {
-            self.calls += 1;
-            let told = self.library.find(lent.run(), key);
+            self.calls += 2;
             let expected = match &finder {
                 Ok(finder) => found(finder.find(key)),
                 Err(number) => Answer::refused(*number),
             };
-            if told != expected {
-                return Err(format!("find {}: {:?}, not {:?} (table {:?})", key, told, expected, shown(table)));
+            let three = self.library.find(lent.run(), key);
+            let told = self.library.find_walks(lent.run(), key);
+            for (name, told, expected) in [("find", three, expected.three()), ("find_walks", told, expected)] {
+                if told != expected {
+                    let table = shown(table);
+                    return Err(format!("{} {}: {:?}, not {:?} (table {:?})", name, key, told, expected, table));
+                }
             }
-            each(expected);
+            if told.number == 0 {
+                bounded(table[0].into(), told)?;
+            }
+            each(told);
         }
         lent.holds(table).map_err(|difference| format!("find: {}", difference))
     }
@@ -201,6 +212,13 @@ impl Calls for Comparison<'_> {
             format!("{}: {} (first {:?}, second {:?})", name, difference, shown(&before), shown(second))
         })
     }
+}
+
+/// The draws and walks of a lookup that ends, on any table. A falls from draw to draw. A redraw passes no seat twice, or
+/// it would go round, and none that is drawn later: the last one a - 1 seats at most, the one before it a - 2, and so on.
+fn bounded(a: u64, answer: Answer) -> Same<()> {
+    let [_, _, draws, walks] = answer.values;
+    same("draws and walks in their bounds", 1 <= draws && draws <= a && walks <= a * (a - 1) / 2, true)
 }
 
 /// Enough of a run to see what went wrong.

@@ -68,7 +68,9 @@ fn without(own: &mut Alone, a: usize, seats: &[u32]) -> Same<History> {
     Ok(history)
 }
 
-/// E1 to E8. E4 to E6 are the redraws of E7: a key whose first pick is 5, 1 or 4 takes three, two or one of them.
+/// E1 to E8. E4 to E6 are the redraws of E7: a key whose first pick is 5, 1 or 4 takes three, two or one of them. From
+/// position 1, the redraw at seat 5 follows K not at all, the one at seat 1 once, to seat 4, and the one at seat 4 twice,
+/// over seat 4 to seat 2.
 fn seven_seats(own: &mut Alone) -> Same<()> {
     let e1 = without(own, 7, &[6, 5, 1])?;
     same_run("E1", &e1.words, &[&E1[..], &E1_IDS].concat())?;
@@ -77,9 +79,9 @@ fn seven_seats(own: &mut Alone) -> Same<()> {
     let mut e3 = without(own, 7, &[6, 5, 1, 0, 4])?;
     same_run("E3", e3.bare(), &E3)?;
     let redraws = [(5, 5), (1, 4), (4, 2)].map(|(at, among)| Redraw { at, among, pick: 1 });
-    for (place, first) in [5, 1, 4].into_iter().enumerate() {
+    for (place, (first, walks)) in [(5, 3), (1, 3), (4, 2)].into_iter().enumerate() {
         let answer = find(own, &e3, first, &redraws[place..])?;
-        same("E4 to E7", answer, Answer::fine(&[2, 13, 4 - place as u64]))?;
+        same("E4 to E7", answer, Answer::fine(&[2, 13, 4 - place as u64, walks]))?;
     }
     same("E8", e3.seat(own, 99)?, Change::Seating { id: 99, seat: 4 })?;
     same_run("E8", e3.bare(), &E2)
@@ -88,9 +90,9 @@ fn seven_seats(own: &mut Alone) -> Same<()> {
 /// E9 to E11.
 fn few_seats(own: &mut Alone) -> Same<()> {
     let e9 = without(own, 1, &[])?;
-    same("E9", find(own, &e9, 0, &[])?, Answer::fine(&[0, 11, 1]))?;
+    same("E9", find(own, &e9, 0, &[])?, Answer::fine(&[0, 11, 1, 0]))?;
     let e10 = without(own, 2, &[0])?;
-    same("E10", find(own, &e10, 0, &[Redraw { at: 0, among: 1, pick: 0 }])?, Answer::fine(&[1, 12, 2]))?;
+    same("E10", find(own, &e10, 0, &[Redraw { at: 0, among: 1, pick: 0 }])?, Answer::fine(&[1, 12, 2, 1]))?;
     let e11 = without(own, 3, &[2])?;
     same_run("E11", e11.bare(), &E11)
 }

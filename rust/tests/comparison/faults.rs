@@ -1,7 +1,7 @@
 //! Models with a known fault.
 use crate::library::{found, Answer, Library, Model, UNWRITTEN};
 use steamacorn::model::calls;
-use steamacorn::model::find::{first_of, pick_of, Found};
+use steamacorn::model::find::{first_of, pick_of, redraw, Found};
 use steamacorn::model::numbers::{DAMAGED, FORM, ROOM, SIZE};
 use steamacorn::model::parts::Parts;
 use steamacorn::model::table::Table;
@@ -11,7 +11,9 @@ use steamacorn::words;
 pub struct Faulty {
     pub seat: fn(&mut [u32], u32) -> Answer,
     pub out: fn(&mut [u32], u32) -> Answer,
-    pub find: fn(&mut [u32], u64) -> Answer,
+    pub find_walks: fn(&mut [u32], u64) -> Answer,
+    /// What find answers, given what find_walks answers.
+    pub find: fn(Answer) -> Answer,
     pub save: fn(&mut [u32], &mut [u8]) -> Answer,
     pub load: fn(&mut [u32], &mut [u8]) -> Answer,
     pub key: fn(&mut [u8], &mut [u8]) -> Answer,
@@ -20,7 +22,8 @@ pub struct Faulty {
 pub const FAULTLESS: Faulty = Faulty {
     seat: |table, id| Model.seat(table, id),
     out: |table, id| Model.out(table, id),
-    find: |table, key| Model.find(table, key),
+    find_walks: |table, key| Model.find_walks(table, key),
+    find: Answer::three,
     save: |table, record| Model.save(table, record),
     load: |table, record| Model.load(table, record),
     key: |packet, key| Model.key(packet, key),
@@ -40,7 +43,11 @@ impl Library for Faulty {
     }
 
     fn find(&self, table: &mut [u32], key: u64) -> Answer {
-        (self.find)(table, key)
+        (self.find)(self.find_walks(table, key))
+    }
+
+    fn find_walks(&self, table: &mut [u32], key: u64) -> Answer {
+        (self.find_walks)(table, key)
     }
 
     fn audit(&self, table: &mut [u32]) -> Answer {
@@ -128,24 +135,27 @@ pub fn value_beside_refusal(table: &mut [u32], id: u32) -> Answer {
     Answer { values, ..answer }
 }
 
-/// Redraws as `next` says, which is given the parts, the seat and the position drawn. Where that does not end it gives up.
-fn find_by(table: &mut [u32], key: u64, next: impl Fn(&Parts, u32, u32) -> u32) -> Answer {
+/// Redraws as `next` says, which is given the parts, the seat and the position drawn, and tells the next seat and how
+/// often K was followed. Where that does not end it gives up.
+fn find_by(table: &mut [u32], key: u64, next: impl Fn(&Parts, u32, u32) -> (u32, u32)) -> Answer {
     let parts = match Parts::of_words(table) {
         Some(parts) => parts,
-        None => return Model.find(table, key),
+        None => return Model.find_walks(table, key),
     };
     let mut b = first_of(key, parts.a);
-    let mut draws = 1;
+    let (mut draws, mut walks) = (1, 0);
     while parts.A[b as usize] != 0 && draws < 5000 {
-        b = next(&parts, b, pick_of(key, b, parts.A[b as usize]));
-        if b >= parts.a {
+        let (seat, follows) = next(&parts, b, pick_of(key, b, parts.A[b as usize]));
+        if seat >= parts.a {
             return Answer::refused(DAMAGED);
         }
+        b = seat;
         draws += 1;
+        walks += follows;
     }
     found(match parts.S[b as usize] {
         0 => Err(DAMAGED),
-        server => Ok(Found { seat: b, server, draws }),
+        server => Ok(Found { seat: b, server, draws, walks }),
     })
 }
 
@@ -157,27 +167,114 @@ pub fn early_find(table: &mut [u32], key: u64) -> Answer {
             h = parts.K[h as usize];
             followed += 1;
         }
-        h
+        (h, followed)
     })
 }
 
-/// Reading today's W on a redraw.
+/// Reading today's W on a redraw, and telling walks as if it had walked.
 pub fn todays_find(table: &mut [u32], key: u64) -> Answer {
-    find_by(table, key, |parts, _, h| *parts.W.get(h as usize).unwrap_or(&parts.a))
+    find_by(table, key, |parts, b, h| {
+        let follows = redraw(parts, b, h).map_or(0, |(_, follows)| follows);
+        (*parts.W.get(h as usize).unwrap_or(&parts.a), follows)
+    })
 }
 
 /// Sharing the keys out by the number of servers: most of them move at every change.
 pub fn modulo_find(table: &mut [u32], key: u64) -> Answer {
     let parts = Parts::of_words(table).expect("legal shape");
     let seat = parts.W[first_of(key, parts.N) as usize];
-    found(Ok(Found { seat, server: parts.S[seat as usize], draws: 1 }))
+    found(Ok(Found { seat, server: parts.S[seat as usize], draws: 1, walks: 0 }))
 }
 
 /// A draw count from nowhere.
 pub fn one_draw(table: &mut [u32], key: u64) -> Answer {
-    let answer = Model.find(table, key);
-    let [seat, server, draws] = answer.values;
-    Answer { values: [seat, server, draws.min(1)], ..answer }
+    let answer = Model.find_walks(table, key);
+    let [seat, server, draws, walks] = answer.values;
+    Answer { values: [seat, server, draws.min(1), walks], ..answer }
+}
+
+/// The model's answer, but for the walks: `count` makes them of the follows of each redraw.
+fn walks_by(table: &mut [u32], key: u64, count: impl Fn(&[u64]) -> u64) -> Answer {
+    let answer = Model.find_walks(table, key);
+    if answer.number != 0 {
+        return answer;
+    }
+    let parts = Parts::of_words(table).expect("legal shape");
+    let mut b = first_of(key, parts.a);
+    let mut follows = Vec::new();
+    while parts.A[b as usize] != 0 {
+        let (seat, times) = redraw(&parts, b, pick_of(key, b, parts.A[b as usize])).expect("a lookup that ends");
+        b = seat;
+        follows.push(times.into());
+    }
+    with_walks(answer, count(&follows))
+}
+
+fn with_walks(answer: Answer, walks: u64) -> Answer {
+    let [seat, server, draws, _] = answer.values;
+    Answer { values: [seat, server, draws, walks], ..answer }
+}
+
+/// A count of walks from nowhere.
+pub fn no_walks(table: &mut [u32], key: u64) -> Answer {
+    walks_by(table, key, |_| 0)
+}
+
+/// The redraws counted, and not what they followed.
+pub fn a_walk_for_each_redraw(table: &mut [u32], key: u64) -> Answer {
+    walks_by(table, key, |follows| follows.len() as u64)
+}
+
+/// A count that begins anew at each redraw.
+pub fn walks_of_the_last_redraw(table: &mut [u32], key: u64) -> Answer {
+    walks_by(table, key, |follows| *follows.last().unwrap_or(&0))
+}
+
+/// The position drawn counted as if K led to it.
+pub fn walks_to_positions(table: &mut [u32], key: u64) -> Answer {
+    walks_by(table, key, |follows| follows.iter().map(|times| 1 + times).sum())
+}
+
+/// Walks of sound tables only.
+pub fn walks_where_sound(table: &mut [u32], key: u64) -> Answer {
+    match Table::of_words(table) {
+        Ok(_) => Model.find_walks(table, key),
+        Err(_) => no_walks(table, key),
+    }
+}
+
+/// Walks that change with N and with the server, and not with the way alone.
+pub fn walks_and_more(table: &mut [u32], key: u64) -> Answer {
+    let answer = Model.find_walks(table, key);
+    match answer {
+        Answer { number: 0, values: [_, server, _, walks] } => with_walks(answer, walks + u64::from(table[1]) + server),
+        _ => answer,
+    }
+}
+
+/// A total of 16 bits.
+pub fn narrow_walks(table: &mut [u32], key: u64) -> Answer {
+    walks_by(table, key, |follows| follows.iter().sum::<u64>() % (1 << 16))
+}
+
+/// Walks told beside a refusal.
+pub fn walks_beside_refusal(table: &mut [u32], key: u64) -> Answer {
+    let answer = Model.find_walks(table, key);
+    match answer.number {
+        0 => answer,
+        _ => with_walks(answer, 0),
+    }
+}
+
+/// find's values shifted: the walks in place of the draws.
+pub fn walks_for_draws(answer: Answer) -> Answer {
+    let [seat, server, _, walks] = answer.values;
+    Answer { values: [seat, server, walks, UNWRITTEN], ..answer }
+}
+
+/// find that writes a fourth value.
+pub fn four_values(answer: Answer) -> Answer {
+    answer
 }
 
 pub fn bytes_beside_refusal(table: &mut [u32], record: &mut [u8]) -> Answer {

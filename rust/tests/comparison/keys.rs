@@ -1,10 +1,10 @@
 //! Finding keys on sound tables: which keys a change moves, by the library's own answers; and that find answers as the
-//! model's set rule does on the history that was played, and its array rule on the words.
+//! model's set rule does on the history that was played, and its array rule, which counts the walks, on the words.
 use crate::compare::{same, Alone, Same};
 use crate::library::{found, Answer, Library};
 use crate::played::{sizes, Change, History};
 use crate::random::Random;
-use steamacorn::model::find::{by_arrays, first_of, pick_of, BySets};
+use steamacorn::model::find::{by_arrays, first_of, pick_of, BySets, Drawn};
 use steamacorn::model::table::Table;
 
 fn some_keys(random: &mut Random, count: usize) -> Vec<u64> {
@@ -55,11 +55,14 @@ pub fn rules(library: &dyn Library) -> Same<u64> {
         let keys = some_keys(&mut random, 300);
         for (key, answer) in keys.iter().zip(own.find(&history.words, &keys)?) {
             let (first, pick) = (first_of(*key, parts.a), |b, n| pick_of(*key, b, n));
-            same("by sets", answer, found(Ok(sets.find(first, pick))))?;
+            let Drawn { seat, server, draws } = sets.find(first, pick);
+            same("by sets", answer.three(), Answer::fine(&[seat, server, draws].map(u64::from)))?;
             same("by the arrays", answer, found(by_arrays(&parts, first, pick)))?;
-            let [seat, server, draws] = answer.values;
+            let [seat, server, draws, walks] = answer.values;
             same("the server", server, parts.S[seat as usize].into())?;
-            same("draws in their bounds", 1 <= draws && draws <= (1 + parts.a - parts.N).into(), true)?;
+            let out = u64::from(parts.a - parts.N);
+            same("draws in their bounds", 1 <= draws && draws <= 1 + out, true)?;
+            same("walks in their bounds", walks <= (draws - 1) * out, true)?; // of one redraw, where draws is 2
         }
     }
     Ok(own.calls)
@@ -78,7 +81,7 @@ fn told(history: &History) -> Same<Table> {
     Ok(table)
 }
 
-/// Servers taken out, as many ids seated again: every key is on the seat it was on, by as many draws.
+/// Servers taken out, as many ids seated again: every key is on the seat it was on, by as many draws and walks.
 pub fn again(library: &dyn Library) -> Same<u64> {
     let mut own = Alone::new(library);
     for (mut random, a) in sizes(5, 300) {
@@ -96,8 +99,11 @@ pub fn again(library: &dyn Library) -> Same<u64> {
             history.seat(&mut own, new)?;
         }
         for ((key, old), new) in keys.iter().zip(before).zip(own.find(&history.words, &keys)?) {
-            let seat_and_draws = |answer: Answer| (answer.number, answer.values[0], answer.values[2]);
-            same(&format!("key {} again", key), seat_and_draws(new), seat_and_draws(old))?;
+            let but_the_server = |answer: Answer| {
+                let [seat, _, draws, walks] = answer.values;
+                (answer.number, seat, draws, walks)
+            };
+            same(&format!("key {} again", key), but_the_server(new), but_the_server(old))?;
         }
     }
     Ok(own.calls)

@@ -1,4 +1,4 @@
-//! What is compared: the eight calls. Every run is lent so that it could be written to, also one that a call has only
+//! What is compared: the nine calls. Every run is lent so that it could be written to, also one that a call has only
 //! to read, so that such a write shows.
 use steamacorn::model::calls;
 use steamacorn::model::find::{by_arrays, first_of, pick_of, Found};
@@ -12,18 +12,18 @@ pub const UNWRITTEN: u64 = 0xA5A5_A5A5;
 #[derive(Clone, Copy, Debug, PartialEq, Eq)]
 pub struct Answer {
     pub number: u32,
-    pub values: [u64; 3],
+    pub values: [u64; 4],
 }
 
 impl Answer {
     pub fn fine(values: &[u64]) -> Answer {
-        let mut answer = Answer { number: 0, values: [UNWRITTEN; 3] };
+        let mut answer = Answer { number: 0, values: [UNWRITTEN; 4] };
         answer.values[..values.len()].copy_from_slice(values);
         answer
     }
 
     pub fn refused(number: u32) -> Answer {
-        Answer { number, values: [UNWRITTEN; 3] }
+        Answer { number, values: [UNWRITTEN; 4] }
     }
 
     pub fn of(result: Result<impl Into<u64>, u32>) -> Answer {
@@ -34,13 +34,22 @@ impl Answer {
     pub fn bare(result: Result<(), u32>) -> Answer {
         result.map_or_else(Answer::refused, |_| Answer::fine(&[]))
     }
+
+    /// What `find` has to answer where `find_walks` has to answer this.
+    pub fn three(self) -> Answer {
+        let [seat, server, draws, _] = self.values;
+        Answer { values: [seat, server, draws, UNWRITTEN], ..self }
+    }
 }
 
 pub trait Library {
     fn open(&self, table: &mut [u32], a: u32, ids: &mut [u32]) -> Answer;
     fn seat(&self, table: &mut [u32], id: u32) -> Answer;
     fn out(&self, table: &mut [u32], id: u32) -> Answer;
+    /// Seat, server and draws.
     fn find(&self, table: &mut [u32], key: u64) -> Answer;
+    /// Seat, server, draws and walks.
+    fn find_walks(&self, table: &mut [u32], key: u64) -> Answer;
     fn audit(&self, table: &mut [u32]) -> Answer;
     fn save(&self, table: &mut [u32], record: &mut [u8]) -> Answer;
     fn load(&self, table: &mut [u32], record: &mut [u8]) -> Answer;
@@ -64,6 +73,10 @@ impl Library for Model {
     }
 
     fn find(&self, table: &mut [u32], key: u64) -> Answer {
+        self.find_walks(table, key).three()
+    }
+
+    fn find_walks(&self, table: &mut [u32], key: u64) -> Answer {
         let parts = Parts::of_words(table).ok_or(SIZE);
         found(parts.and_then(|parts| by_arrays(&parts, first_of(key, parts.a), |b, n| pick_of(key, b, n))))
     }
@@ -86,7 +99,7 @@ impl Library for Model {
 }
 
 pub fn found(result: Result<Found, u32>) -> Answer {
-    result.map_or_else(Answer::refused, |found| {
-        Answer::fine(&[found.seat.into(), found.server.into(), found.draws.into()])
+    result.map_or_else(Answer::refused, |Found { seat, server, draws, walks }| {
+        Answer::fine(&[seat, server, draws, walks].map(u64::from))
     })
 }

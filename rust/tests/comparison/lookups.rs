@@ -23,11 +23,13 @@ pub fn compare(library: &dyn Library) -> Same<u64> {
     shares(&mut comparison, &mut random)?;
     for (a, used, keys) in SOUND {
         let table = random.table_with(a, used);
-        let most = 1 + table.removals.len() as u64;
+        let out = table.removals.len() as u64;
         let small = 0..keys / 2;
         let large = (0..keys / 2).map(|_| random.number());
         comparison.find(&table.words(), small.chain(large).chain([u64::MAX, 1 << 63]), |answer| {
-            assert!(answer.number == 0 && answer.values[2] <= most, "the model's draws are 1 to {}", most);
+            let [_, _, draws, walks] = answer.values;
+            assert!(answer.number == 0 && draws <= 1 + out, "the model's draws are 1 to {}", 1 + out);
+            assert!(walks <= (draws - 1) * out, "the model's walks are at most {} a redraw", out);
         })?;
     }
     damaged(&mut comparison, &mut random)?;

@@ -1,5 +1,6 @@
 //! The model only: no library is asked.
 use crate::random::Random;
+use steamacorn::model::find::redraw;
 use steamacorn::model::parts::Parts;
 use steamacorn::model::table::Table;
 
@@ -29,4 +30,25 @@ fn the_changes_leave_what_the_history_says() {
             assert_eq!(Table::of_words(&parts.words()).as_ref(), Ok(&table));
         }
     }
+}
+
+/// Every redraw of a sound table, from each position: by the arrays it leads where the line says, and it follows K at
+/// most a - N times.
+#[test]
+fn a_redraw_follows_k_at_most_as_often_as_seats_are_out() {
+    let mut reached = 0;
+    for round in 0..1000 {
+        let table = Random::new(round).table(1 + round as usize % 40);
+        let parts = Parts::of_words(&table.words()).expect("legal shape");
+        for (b, line) in (0..).zip(table.lines()) {
+            for (position, seat) in (0..).zip(line.iter().flatten()) {
+                let (next, follows) = redraw(&parts, b, position).expect("sound");
+                assert_eq!(next, *seat);
+                assert!(follows <= parts.a - parts.N);
+                reached += u32::from(follows == parts.a - parts.N);
+            }
+        }
+    }
+    println!("{} redraws follow K a - N times", reached);
+    assert_ne!(reached, 0);
 }

@@ -3,7 +3,7 @@ use crate::compare::Same;
 use crate::faults::*;
 use crate::key_faults::*;
 use crate::library::{Library, Model};
-use crate::{changes, damage, edges, examples, histories, keys, lookups, packets, records};
+use crate::{changes, damage, edges, examples, histories, keys, lookups, packets, records, walks};
 
 fn passes(name: &str, compare: fn(&dyn Library) -> Same<u64>) {
     match compare(&Model) {
@@ -25,6 +25,11 @@ fn the_model_passes_damage() {
 #[test]
 fn the_model_passes_lookups() {
     passes("lookups", lookups::compare);
+}
+
+#[test]
+fn the_model_passes_walks() {
+    passes("walks", walks::compare);
 }
 
 #[test]
@@ -111,31 +116,72 @@ fn another_id_is_caught() {
 
 #[test]
 fn a_walk_that_stops_early_is_caught() {
-    caught(lookups::compare, Faulty { find: early_find, ..FAULTLESS }, "find ");
-    caught(changes::compare, Faulty { find: early_find, ..FAULTLESS }, "find ");
+    caught(lookups::compare, Faulty { find_walks: early_find, ..FAULTLESS }, "find ");
+    caught(changes::compare, Faulty { find_walks: early_find, ..FAULTLESS }, "find ");
 }
 
 #[test]
 fn a_find_that_moves_other_keys_is_caught() {
-    caught(keys::moved, Faulty { find: modulo_find, ..FAULTLESS }, "key ");
+    caught(keys::moved, Faulty { find_walks: modulo_find, ..FAULTLESS }, "key ");
 }
 
 /// It moves no other keys: the rules alone tell it.
 #[test]
 fn todays_line_is_caught() {
-    caught(keys::rules, Faulty { find: todays_find, ..FAULTLESS }, "by sets");
-    caught(examples::compare, Faulty { find: todays_find, ..FAULTLESS }, "E4 to E7");
+    caught(keys::rules, Faulty { find_walks: todays_find, ..FAULTLESS }, "by sets");
+    caught(examples::compare, Faulty { find_walks: todays_find, ..FAULTLESS }, "E4 to E7");
 }
 
 #[test]
 fn draws_from_nowhere_are_caught() {
-    caught(keys::rules, Faulty { find: one_draw, ..FAULTLESS }, "by sets");
-    caught(examples::compare, Faulty { find: one_draw, ..FAULTLESS }, "E4 to E7");
+    caught(keys::rules, Faulty { find_walks: one_draw, ..FAULTLESS }, "by sets");
+    caught(examples::compare, Faulty { find_walks: one_draw, ..FAULTLESS }, "E4 to E7");
+}
+
+#[test]
+fn walks_from_nowhere_are_caught() {
+    caught(keys::rules, Faulty { find_walks: no_walks, ..FAULTLESS }, "by the arrays");
+    caught(examples::compare, Faulty { find_walks: no_walks, ..FAULTLESS }, "E4 to E7");
+    caught(keys::rules, Faulty { find_walks: a_walk_for_each_redraw, ..FAULTLESS }, "by the arrays");
+    caught(examples::compare, Faulty { find_walks: a_walk_for_each_redraw, ..FAULTLESS }, "E4 to E7");
+}
+
+#[test]
+fn walks_counted_otherwise_are_caught() {
+    caught(keys::rules, Faulty { find_walks: walks_of_the_last_redraw, ..FAULTLESS }, "by the arrays");
+    caught(examples::compare, Faulty { find_walks: walks_of_the_last_redraw, ..FAULTLESS }, "E4 to E7");
+    caught(keys::rules, Faulty { find_walks: walks_to_positions, ..FAULTLESS }, "by the arrays");
+    caught(examples::compare, Faulty { find_walks: walks_to_positions, ..FAULTLESS }, "E4 to E7");
+    caught(walks::compare, Faulty { find_walks: narrow_walks, ..FAULTLESS }, "find_walks ");
+}
+
+#[test]
+fn walks_of_a_key_that_stays_are_watched() {
+    caught(keys::moved, Faulty { find_walks: walks_and_more, ..FAULTLESS }, "key ");
+    caught(keys::again, Faulty { find_walks: walks_and_more, ..FAULTLESS }, "key ");
+}
+
+/// Sound tables do not tell it.
+#[test]
+fn walks_of_sound_tables_only_are_caught() {
+    caught(damage::compare, Faulty { find_walks: walks_where_sound, ..FAULTLESS }, "find_walks ");
+    caught(walks::compare, Faulty { find_walks: walks_where_sound, ..FAULTLESS }, "find_walks ");
+}
+
+#[test]
+fn a_find_that_tells_walks_is_caught() {
+    caught(lookups::compare, Faulty { find: walks_for_draws, ..FAULTLESS }, "find ");
+    caught(keys::moved, Faulty { find: walks_for_draws, ..FAULTLESS }, "find ");
+    caught(examples::compare, Faulty { find: walks_for_draws, ..FAULTLESS }, "find ");
+    caught(edges::compare, Faulty { find: four_values, ..FAULTLESS }, "find ");
+    caught(keys::again, Faulty { find: four_values, ..FAULTLESS }, "find ");
 }
 
 #[test]
 fn a_value_beside_a_refusal_is_caught() {
     caught(edges::compare, Faulty { seat: value_beside_refusal, ..FAULTLESS }, "seat: Answer");
+    caught(edges::compare, Faulty { find_walks: walks_beside_refusal, ..FAULTLESS }, "find_walks ");
+    caught(damage::compare, Faulty { find_walks: walks_beside_refusal, ..FAULTLESS }, "find_walks ");
 }
 
 #[test]

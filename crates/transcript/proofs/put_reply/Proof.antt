@@ -5,7 +5,7 @@ use Rattle.decimals.specs.Places.{Put}
 use Rattle.lines.specs.Lines.{spaced}
 use Rattle.transcript.specs.Printing.{said, okWord, noWord, printed}
 use Rattle.transcript.specs.Transcript.{lineRefused}
-use Rattle.transcript.specs.Replies.{replyAnswer, lineMost, byteRoom, replyMost, Puts}
+use Rattle.transcript.specs.Replies.{replyAnswer, lineMost, unknownMost, replyMost, Puts}
 use Rattle.transcript.specs.declared.Reply.{Reply}
 use Rattle.transcript.proofs.Saying.{said-most}
 use Rattle.transcript.proofs.Tables.{number-test}
@@ -21,13 +21,15 @@ puts e f h p = rw e (record { put = rw f at p; short = omega arith })
 one : (c : tie.After-known-told) → length (said okWord (c .before .reply .given .0 .0 ∷ [])) ≤ lineMost 1
 one c = said-most okWord _ refl (search needs, tt)
 
-trio : (c : tie.After-known-told2) → let r = c .before .reply2 .given .0 in length (said okWord (r .0 ∷ r .1 .0 ∷ r .1 .1 .0 ∷ [])) ≤ lineMost 3
-trio c = said-most okWord _ refl (search needs, (search needs, (search needs, tt)))
+four : (c : tie.After-known-told2) →
+    let r = c .before .reply2 .given .0 in
+    length (said okWord (r .0 ∷ r .1 .0 ∷ r .1 .1 .0 ∷ r .1 .1 .1 .0 ∷ [])) ≤ lineMost 4
+four c = said-most okWord _ refl (search needs, (search needs, (search needs, (search needs, tt))))
 
 no : (c : tie.After-number) → length (said noWord (c .number .result ∷ [])) ≤ lineMost 1
 no c = said-most noWord _ refl (search needs, tt)
 
-unknown : length (printed lineRefused) ≤ byteRoom
+unknown : length (printed lineRefused) ≤ unknownMost
 unfolding decimalIn spaced
 unknown = omega arith
 
@@ -36,13 +38,13 @@ put-reply-spec =
     tie.close
     (tie.spec (λ c. search needs) (λ c. search needs) (λ c. search needs)
     (λ c κs. let r = c .before .before .before in omega (arith, one r, ap replyMost (r .before .reply .given .1))) (λ c. search needs) (λ c. search needs)
-    (λ c. search needs) (λ c κs. let r = c .before .before .before in omega (arith, trio r, ap replyMost (r .before .reply2 .given .1))) (λ c. search needs)
+    (λ c. search needs) (λ c κs. let r = c .before .before .before in omega (arith, four r, ap replyMost (r .before .reply2 .given .1))) (λ c. search needs)
     (λ c. search needs) (λ c. search needs) (λ c. search needs)
     (λ c κs. omega (arith, no (c .before), ap replyMost (c .before .before .before .before .before .reply3 .given .1))) (λ c. search needs) (λ c. search needs)
     (λ c. search needs) (λ c κs. let r = c .before .before .before in omega (arith, unknown, ap replyMost (r .enum-told .given .1))) (λ c. search needs)
     (λ c. let r = c .before .before .before .before .before .before in puts (r .before .reply .given .1) refl (one r) (c .before .before .put-line .ensures))
     (λ c. search needs)
-    (λ c. let r = c .before .before .before .before .before .before in puts (r .before .reply2 .given .1) refl (trio r) (c .before .before .put-line2 .ensures))
+    (λ c. let r = c .before .before .before .before .before .before in puts (r .before .reply2 .given .1) refl (four r) (c .before .before .put-line2 .ensures))
     (λ c. search needs)
     (λ c.
     let n = c .before .before .before .before in
