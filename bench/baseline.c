@@ -40,7 +40,7 @@ static inline __attribute__((always_inline)) uint32_t found(const uint32_t *tabl
     PARTS(const, table);
     uint32_t b = (uint32_t)(output(1, key) % a), taken = 1, walked = 0, bound;
     while ((bound = A[b]) != 0) {
-        uint32_t h = (uint32_t)(output((uint64_t)b + 1, key) % bound), left = a;
+        uint32_t h = (uint32_t)(output((uint64_t)b + 2, key) % bound), left = a;
         for (;;) {
             if (h >= a)
                 return DAMAGED;
@@ -84,7 +84,7 @@ uint32_t CALL(bare_find)(const uint32_t *restrict table, size_t words, uint64_t 
     uint32_t b = (uint32_t)(output(1, key) % a), taken = 1, bound;
     (void)words;
     while ((bound = A[b]) != 0) {
-        uint32_t h = (uint32_t)(output((uint64_t)b + 1, key) % bound);
+        uint32_t h = (uint32_t)(output((uint64_t)b + 2, key) % bound);
         while (A[h] >= bound)
             h = K[h];
         b = h;

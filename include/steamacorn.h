@@ -90,7 +90,8 @@ uint32_t steamacorn_out(uint32_t *STEAMACORN_RESTRICT table, size_t words, uint3
                         uint32_t *STEAMACORN_RESTRICT seat);
 
 /*
- * Finds the server for a key.
+ * Finds the server for a key. The first seat is by output 1 of SplitMix64 started at the key, and at a seat b that is out
+ * of use the key goes on by output b + 2 (b + 1 before version 0.4.0).
  * Lent: table, words long, only read.
  * Written: *seat and *server, where the key is; *draws, the hashes taken, at most 1 + (a - N) on a sound table.
  * Refusals: SIZE (as above), DAMAGED (the way to a server leaves the table, would follow more than a successors after

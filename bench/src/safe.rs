@@ -109,7 +109,7 @@ fn found(table: &[u32], key: u64) -> Result<(u32, u32, u32, u32), u32> {
     let (mut draws, mut walks) = (1, 0);
     while A[b] != 0 {
         let bound = A[b];
-        let mut h = (output(b as u64 + 1, key) % u64::from(bound)) as usize;
+        let mut h = (output(b as u64 + 2, key) % u64::from(bound)) as usize;
         let mut left = a;
         while *A.get(h).ok_or(DAMAGED)? >= bound {
             if left == 0 {

@@ -106,7 +106,8 @@ pub fn key_of(packet: &[u8]) -> Result<u64, Refusal> {
     Ok(u64::from_be_bytes(bytes))
 }
 
-/// Finds the server for a key, and tells how far the lookup went.
+/// Finds the server for a key, and tells how far the lookup went. The first seat is by output 1 of SplitMix64 started at
+/// the key, and at a seat b that is out of use the key goes on by output b + 2 (b + 1 before version 0.4.0).
 ///
 /// ```
 /// use steamacorn::{find, open, take_out, words, Found, Refusal};

@@ -7,4 +7,5 @@ pub mod Undo
 pub mod Histories
 pub mod Keys
 pub mod Again
+pub mod SeatZero
 pub mod Hollow

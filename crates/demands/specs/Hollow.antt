@@ -51,19 +51,19 @@ seven = words (opened 7 (11 ∷ 12 ∷ 13 ∷ []))
 -- one that finds the same seat for every key; one that makes the first redraw properly and then takes any seat in use; one with draws from nowhere: two
 -- keys, on two seats, after three redraws and after two
 abbrev pub TwoKeys : Type 0
-TwoKeys = (findCall seven 20 ≡ fine (1 ∷ 12 ∷ 4 ∷ 0 ∷ [])) × (findCall seven 28 ≡ fine (2 ∷ 13 ∷ 3 ∷ 0 ∷ []))
+TwoKeys = (findCall seven 17 ≡ fine (2 ∷ 13 ∷ 4 ∷ 0 ∷ [])) × (findCall seven 2 ≡ fine (1 ∷ 12 ∷ 3 ∷ 0 ∷ []))
 
--- one that reads today's W on a redraw: in E3's state key 11 comes to seat 1, and draws position 1. Today seat 2 stands there; it was seat 4 after seat 1
+-- one that reads today's W on a redraw: in E3's state key 10 comes to seat 1, and draws position 1. Today seat 2 stands there; it was seat 4 after seat 1
 -- left, and the key goes on to seat 3
 abbrev pub TodaysLine : Type 0
 TodaysLine =
-    (firstOf 11 7 ≡ 1) × (pickOf 11 1 (after 7 h3 .bare .A ! 1) ≡ 1) × (after 7 h3 .bare .W ! 1 ≡ 2)
-    × (findCall (words (after 7 h3)) 11 ≡ fine (3 ∷ 14 ∷ 3 ∷ 2 ∷ []))
+    (firstOf 10 7 ≡ 1) × (pickOf 10 1 (after 7 h3 .bare .A ! 1) ≡ 1) × (after 7 h3 .bare .W ! 1 ≡ 2)
+    × (findCall (words (after 7 h3)) 10 ≡ fine (3 ∷ 14 ∷ 3 ∷ 2 ∷ []))
 
 -- Request 2/13: one whose walks are always 0; or the redraws; or the last redraw's follows alone; or one more for each redraw, where it begins. Two keys of
 -- E3's state, on one seat with as many draws; the first follows K once from seat 1 and then twice from seat 4, the second never
 abbrev pub OwnWalks : Type 0
 OwnWalks =
     let T = after 7 h3 .bare in
-    (firstOf 48 7 ≡ 1) × (redraw (T .A) (T .K) (pickOf 48) 1 ≡ at 4 1) × (redraw (T .A) (T .K) (pickOf 48) 4 ≡ at 2 2)
-    × (findCall (words (after 7 h3)) 48 ≡ fine (2 ∷ 13 ∷ 3 ∷ 3 ∷ [])) × (findCall (words (after 7 h3)) 14 ≡ fine (2 ∷ 13 ∷ 3 ∷ 0 ∷ []))
+    (firstOf 19 7 ≡ 1) × (redraw (T .A) (T .K) (pickOf 19) 1 ≡ at 4 1) × (redraw (T .A) (T .K) (pickOf 19) 4 ≡ at 2 2)
+    × (findCall (words (after 7 h3)) 19 ≡ fine (2 ∷ 13 ∷ 3 ∷ 3 ∷ [])) × (findCall (words (after 7 h3)) 48 ≡ fine (2 ∷ 13 ∷ 3 ∷ 0 ∷ []))

@@ -7,5 +7,7 @@ pub mod Undo
 pub mod Histories
 pub mod Keys
 pub mod Again
+-- Request 3/13.
+pub mod SeatZero
 -- Hollow versions.
 pub mod Hollow

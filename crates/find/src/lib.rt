@@ -53,7 +53,7 @@ fn pick(key: u64, b: Seat, m: u32) -> Seat
     requires { ⌜ 0 < m ⌝ }
     ensures { λ r. ⌜ r .0 ≡ pickOf key (b .0) m ⌝ }
 {
-    Seat(remainder(draw(b.0 as u64 + 1, key), m))
+    Seat(remainder(draw(b.0 as u64 + 2, key), m))
 }
 
 // One redraw's walk along K, from a seat to the first whose A is below m. Algorithm 3 goes on where A is m, the paper's prose does not. The seat comes as its

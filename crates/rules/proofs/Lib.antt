@@ -2,6 +2,7 @@
 pub mod WorkedExamples
 pub mod Undo
 pub mod Follows
+pub mod DrawsApart
 -- Laws of lists, runs, parts and openings.
 pub mod Lists
 pub mod Parts

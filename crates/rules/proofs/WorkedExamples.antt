@@ -15,15 +15,15 @@ pub theorem : map (λ (c : Case). c .computed) examples ≡ map (λ (c : Case). 
 unfolding examples opened draw walk lookup
 theorem = refl
 
-opens : (a : ℕ) → Free (openRefusals a (count a 11)) → a ≤ mostSeats → Opens a (count a 11)
-opens a free most = record { free = free; each = λ i h. omega (arith, length-count a 11, count-at a 11 i (omega (arith, length-count a 11))) }
+pub count-opens : (a : ℕ) → Free (openRefusals a (count a 11)) → a ≤ mostSeats → Opens a (count a 11)
+count-opens a free most = record { free = free; each = λ i h. omega (arith, length-count a 11, count-at a 11 i (omega (arith, length-count a 11))) }
 
 front : (T : Table) (h k : List Change) → Accepted T (h ++ k) → Accepted T h
 front T [] k all = done
 front T (c ∷ h) k (then first rest) = then first (front _ h k rest)
 
 -- one more is taken out
-out-next : {T : Table} {id b : ℕ} {h : List Change} → firstThat (outRefusals T id) (λ r. false) true ≡ true → placeOf id (T .S) ≡ b
+pub out-next : {T : Table} {id b : ℕ} {h : List Change} → firstThat (outRefusals T id) (λ r. false) true ≡ true → placeOf id (T .S) ≡ b
     → Accepted (takeOut T b) h → Accepted T (taking id b ∷ h)
 out-next {id = id} {b = b} e at rest = then {c = taking id b} (record { free = computed-free _ e; isPlace = at }) rest
 
@@ -36,12 +36,12 @@ eighth =
 pub all-happen : AllHappen
 unfolding opened occurs repeats placeOf
 all-happen =
-    let seven = opens 7 (computed-free _ refl) (omega arith) in (
+    let seven = count-opens 7 (computed-free _ refl) (omega arith) in (
       record { opens = seven; accepted = front _ h1 _ eighth },
       record { opens = seven; accepted = front _ h2 _ eighth },
       record { opens = seven; accepted = front _ h3 _ eighth },
       record { opens = seven; accepted = eighth },
-      record { opens = opens 1 (computed-free _ refl) (omega arith); accepted = done },
-      record { opens = opens 2 (computed-free _ refl) (omega arith); accepted = out-next refl refl done },
-      record { opens = opens 3 (computed-free _ refl) (omega arith); accepted = out-next refl refl done },
+      record { opens = count-opens 1 (computed-free _ refl) (omega arith); accepted = done },
+      record { opens = count-opens 2 (computed-free _ refl) (omega arith); accepted = out-next refl refl done },
+      record { opens = count-opens 3 (computed-free _ refl) (omega arith); accepted = out-next refl refl done },
     )

@@ -10,12 +10,12 @@ use Rattle.rules.specs.Table.{_!_, Bare}
 use Rattle.rules.specs.Changes.{count, down, out, seat}
 use Rattle.rules.specs.History.{Change, taking, seating}
 
--- The paper's hash(k) and hash(b, k): output 1 and output b + 1 of SplitMix64 started at the key k
+-- The paper's hash(k) and hash(b, k): output 1 and, by request 3/13, output b + 2 of SplitMix64 started at the key k
 abbrev pub hash₁ : ℕ → ℕ
 hash₁ k = output 1 k
 
 abbrev pub hash : ℕ → ℕ → ℕ
-hash b k = output (b + 1) k
+hash b k = output (b + 2) k
 
 -- what a key draws: a first seat among a, and at seat b, which is out of use, a position among n, which is A[b]
 abbrev pub firstOf : ℕ → ℕ → ℕ

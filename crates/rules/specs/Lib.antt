@@ -6,6 +6,7 @@ pub mod Answers
 pub mod History
 pub mod Asks
 pub mod Keys
+pub mod DrawsApart
 pub mod Follows
 pub mod Examples
 -- What serves the proofs.

@@ -1,5 +1,5 @@
-//! Document 01, "Finding a key", and document 02, "Show how far a lookup walked". The rules are apart from the draws:
-//! `first` is the first seat drawn, and `pick(b, n)` the position drawn at seat b among n.
+//! Document 01, "Finding a key", and document 02, "Show how far a lookup walked" and "Seat 0 clumps". The rules are
+//! apart from the draws: `first` is the first seat drawn, and `pick(b, n)` the position drawn at seat b among n.
 use super::numbers::{DAMAGED, SIZE};
 use super::parts::Parts;
 use super::splitmix::output;
@@ -30,7 +30,7 @@ pub fn first_of(k: u64, a: u32) -> u32 {
 
 /// hash(b, k) mod n
 pub fn pick_of(k: u64, b: u32, n: u32) -> u32 {
-    (output(u64::from(b) + 1, k) % u64::from(n)) as u32
+    (output(u64::from(b) + 2, k) % u64::from(n)) as u32
 }
 
 /// By sets: a table with its lines.
@@ -120,6 +120,17 @@ impl Finder {
 #[cfg(test)]
 mod tests {
     use super::*;
+
+    /// Of the published outputs from 1234567, the first is that of the first draw, and the next three those of seats 0 to 2.
+    #[test]
+    fn each_draw_has_an_output_of_its_own() {
+        let published: [u64; 4] = [6457827717110365317, 3203168211198807973, 9817491932198370423, 4593380528125082431];
+        for n in [1, 7, 2048, u32::MAX] {
+            let picks = [0, 1, 2].map(|b| pick_of(1234567, b, n));
+            let reduced = published.map(|output| (output % u64::from(n)) as u32);
+            assert_eq!((first_of(1234567, n), &picks[..]), (reduced[0], &reduced[1..]));
+        }
+    }
 
     /// A table of a seats after these were taken out. Seat b has the id 11 + b.
     fn without(a: u32, out: &[u32]) -> Table {

@@ -1,7 +1,7 @@
 //! The archive in the library's place.
 use crate::compare::Same;
 use crate::library::{Answer, Library, UNWRITTEN};
-use crate::{changes, damage, edges, examples, histories, keys, lookups, packets, records, walks};
+use crate::{changes, damage, edges, examples, histories, keys, lookups, packets, records, seat_zero, walks};
 use std::sync::mpsc::{self, RecvTimeoutError};
 use std::thread;
 use std::time::Duration;
@@ -192,6 +192,14 @@ fn the_archive_keys() {
     passes("keys before and after changes", keys::moved, &Archive);
     passes("keys by both rules", keys::rules, &Archive);
     passes("keys, again", keys::again, &Archive);
+}
+
+#[test]
+fn the_archive_seat_zero() {
+    passes("keys of seat 0", seat_zero::shares, &Archive);
+    passes("positions drawn at seat 0", seat_zero::positions, &Archive);
+    passes("keys moved by the rule", seat_zero::moved, &Archive);
+    passes("a record of before", seat_zero::record, &Archive);
 }
 
 #[test]

@@ -1,7 +1,8 @@
 //! Models with a known fault.
 use crate::library::{found, Answer, Library, Model, UNWRITTEN};
+use crate::seat_zero::pick_before;
 use steamacorn::model::calls;
-use steamacorn::model::find::{first_of, pick_of, redraw, Found};
+use steamacorn::model::find::{by_arrays, first_of, pick_of, redraw, Found};
 use steamacorn::model::numbers::{DAMAGED, FORM, ROOM, SIZE};
 use steamacorn::model::parts::Parts;
 use steamacorn::model::table::Table;
@@ -177,6 +178,36 @@ pub fn todays_find(table: &mut [u32], key: u64) -> Answer {
         let follows = redraw(parts, b, h).map_or(0, |(_, follows)| follows);
         (*parts.W.get(h as usize).unwrap_or(&parts.a), follows)
     })
+}
+
+/// The model's lookup by other draws: the first seat, and the position at a seat.
+fn drawn_by(table: &[u32], key: u64, first: fn(u64, u32) -> u32, pick: fn(u64, u32, u32) -> u32) -> Answer {
+    let parts = Parts::of_words(table).ok_or(SIZE);
+    found(parts.and_then(|parts| by_arrays(&parts, first(key, parts.a), |b, n| pick(key, b, n))))
+}
+
+/// The rule of before: seat 0 draws by the first draw's output.
+pub fn find_before(table: &mut [u32], key: u64) -> Answer {
+    drawn_by(table, key, first_of, pick_before)
+}
+
+/// hash(k) moved along, to output 2, which is seat 0's.
+pub fn all_moved_along(table: &mut [u32], key: u64) -> Answer {
+    drawn_by(table, key, |k, a| pick_of(k, 0, a), pick_of)
+}
+
+/// Another output at seat 0 alone, which is then seat 1's as well.
+pub fn seat_zero_alone(table: &mut [u32], key: u64) -> Answer {
+    drawn_by(table, key, first_of, |k, b, n| if b == 0 { pick_of(k, b, n) } else { pick_before(k, b, n) })
+}
+
+/// The output of before at seat 0, for keys that come to it from another seat.
+pub fn before_from_elsewhere(table: &mut [u32], key: u64) -> Answer {
+    let parts = Parts::of_words(table).expect("legal shape");
+    let first = first_of(key, parts.a);
+    let pick =
+        if first == 0 { pick_of } else { |k, b, n| if b == 0 { pick_before(k, b, n) } else { pick_of(k, b, n) } };
+    drawn_by(table, key, first_of, pick)
 }
 
 /// Sharing the keys out by the number of servers: most of them move at every change.

@@ -17,6 +17,7 @@ mod keys;
 mod lookups;
 mod packets;
 mod records;
+mod seat_zero;
 mod walks;
 
 #[cfg(feature = "archive")]

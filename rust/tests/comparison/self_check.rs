@@ -3,7 +3,7 @@ use crate::compare::Same;
 use crate::faults::*;
 use crate::key_faults::*;
 use crate::library::{Library, Model};
-use crate::{changes, damage, edges, examples, histories, keys, lookups, packets, records, walks};
+use crate::{changes, damage, edges, examples, histories, keys, lookups, packets, records, seat_zero, walks};
 
 fn passes(name: &str, compare: fn(&dyn Library) -> Same<u64>) {
     match compare(&Model) {
@@ -53,6 +53,14 @@ fn the_model_passes_keys() {
     passes("keys before and after changes", keys::moved);
     passes("keys by both rules", keys::rules);
     passes("keys, again", keys::again);
+}
+
+#[test]
+fn the_model_passes_seat_zero() {
+    passes("keys of seat 0", seat_zero::shares);
+    passes("positions drawn at seat 0", seat_zero::positions);
+    passes("keys moved by the rule", seat_zero::moved);
+    passes("a record of before", seat_zero::record);
 }
 
 #[test]
@@ -133,6 +141,38 @@ fn todays_line_is_caught() {
 }
 
 #[test]
+fn the_rule_of_before_is_caught() {
+    let before = || Faulty { find_walks: find_before, ..FAULTLESS };
+    caught(keys::rules, before(), "by sets");
+    caught(seat_zero::shares, before(), "find ");
+    caught(seat_zero::positions, before(), "the positions drawn");
+    caught(seat_zero::moved, before(), "find ");
+}
+
+#[test]
+fn a_first_draw_that_moved_along_is_caught() {
+    let along = || Faulty { find_walks: all_moved_along, ..FAULTLESS };
+    caught(keys::rules, along(), "by sets");
+    caught(seat_zero::shares, along(), "find ");
+    caught(seat_zero::positions, along(), "draws of a key of seat 0");
+    caught(seat_zero::moved, along(), "find ");
+}
+
+/// Where seat 0 is the last one out, its keys do not tell it.
+#[test]
+fn another_output_at_seat_0_alone_is_caught() {
+    caught(keys::rules, Faulty { find_walks: seat_zero_alone, ..FAULTLESS }, "by sets");
+    caught(seat_zero::moved, Faulty { find_walks: seat_zero_alone, ..FAULTLESS }, "find ");
+}
+
+#[test]
+fn the_rule_of_before_for_keys_from_elsewhere_is_caught() {
+    caught(keys::rules, Faulty { find_walks: before_from_elsewhere, ..FAULTLESS }, "by sets");
+    caught(seat_zero::shares, Faulty { find_walks: before_from_elsewhere, ..FAULTLESS }, "find ");
+    caught(seat_zero::moved, Faulty { find_walks: before_from_elsewhere, ..FAULTLESS }, "find ");
+}
+
+#[test]
 fn draws_from_nowhere_are_caught() {
     caught(keys::rules, Faulty { find_walks: one_draw, ..FAULTLESS }, "by sets");
     caught(examples::compare, Faulty { find_walks: one_draw, ..FAULTLESS }, "E4 to E7");
@@ -193,6 +233,7 @@ fn bytes_written_beside_a_refusal_are_caught() {
 #[test]
 fn another_record_is_caught() {
     caught(examples::compare, Faulty { save: little_endian, ..FAULTLESS }, "save: place");
+    caught(seat_zero::record, Faulty { save: little_endian, ..FAULTLESS }, "saved: place");
 }
 
 #[test]
@@ -210,6 +251,7 @@ fn another_order_of_refusals_is_caught() {
 fn a_load_that_is_not_the_opposite_is_caught() {
     caught(records::opposites, Faulty { load: orderless_load, ..FAULTLESS }, "loaded: place");
     caught(examples::compare, Faulty { load: orderless_load, ..FAULTLESS }, "load: place");
+    caught(seat_zero::record, Faulty { load: orderless_load, ..FAULTLESS }, "loaded: place");
 }
 
 #[test]
