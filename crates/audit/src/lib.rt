@@ -1,4 +1,6 @@
 // The audit: whether a lent run is a sound table, told in one pass that reads and never writes.
+#![tactic(auto)]
+
 ghost use Rattle.std.specs.Prelude.{◌≡◌, ◌<◌};
 ghost use Rattle.rules.specs.Table.{◌!◌, table_for};
 ghost use Rattle.rules.specs.Runs.{Shape};
@@ -12,7 +14,7 @@ use ids::repeats_in;
 use parts::{Size, get_a, get_k, get_l, get_n, get_r, get_s, get_w, servers, size_of};
 use rules::{Position, Refusal, Seat};
 
-#[derive(Drop)]
+#[derive(Clone, Copy)]
 pub enum Audited {
     Sound,
     Refused(Refusal),

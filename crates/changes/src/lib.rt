@@ -1,4 +1,6 @@
 // The changes of a table: opening, seating, taking out.
+#![tactic(auto)]
+
 ghost use Rattle.std.specs.Prelude.{◌≡◌, true};
 ghost use Rattle.rules.specs.Table.{table_of};
 ghost use Rattle.rules.specs.Ids.{occurs, place_of};
@@ -15,14 +17,14 @@ use parts::{PARTS, get_n, get_seats, servers, start};
 use rules::{MOST_SEATS, Refusal, Seat};
 
 // The seats in use after an opening, or why not.
-#[derive(Drop)]
+#[derive(Clone, Copy)]
 pub enum Opened {
     Used(u32),
     Refused(Refusal),
 }
 
 // The seat of a change, or why not.
-#[derive(Drop)]
+#[derive(Clone, Copy)]
 pub enum Changed {
     At(Seat),
     Refused(Refusal),

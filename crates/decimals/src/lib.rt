@@ -1,10 +1,12 @@
 // Decimal numbers as text: read from bytes, and put into bytes.
+#![tactic(auto)]
+
 ghost use Rattle.std.specs.Prelude.{◌≡◌, ◌+◌, ◌≤◌, length, drop};
 ghost use Rattle.decimals.specs.Decimal.{decimal, is_digit, follows, number};
 ghost use Rattle.decimals.specs.Places.{Reads, Put};
 
 // A number, and the place behind it.
-#[derive(Drop)]
+#[derive(Clone, Copy)]
 pub enum Number {
     Value(u64, usize),
     Bad,

@@ -1,4 +1,6 @@
 // Fields in lent bytes: a mark of two bytes, and a number of so many bytes, big-endian, written and read. And a record's form, with its places.
+#![tactic(auto)]
+
 ghost use Rattle.std.specs.Prelude.{◌≡◌, ◌+◌, ◌<◌, ◌≤◌, ◌^◌, length};
 ghost use Rattle.std.proofs.lemmas.List.Edits.{sets};
 ghost use Rattle.promises.specs.Decides.{Decides};
@@ -6,7 +8,7 @@ ghost use Rattle.fields.specs.Numbers.{bytes, number_at, Stands};
 ghost use Rattle.fields.specs.Form.{head_mark, field, mark_length, server_length, out_length, in_length, out_at, in_at};
 
 // The forms of a record.
-#[derive(Drop)]
+#[derive(Clone, Copy)]
 pub enum Form {
     Short,
 }

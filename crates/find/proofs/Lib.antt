@@ -3,3 +3,4 @@ pub mod Redraws
 -- Theorems.
 pub mod Tight
 pub mod Bounds
+mod Turns

@@ -1,4 +1,6 @@
 // The seat and the server for a key, by document 01's array rule, on any run of words.
+#![tactic(auto)]
+
 ghost use Rattle.std.specs.Prelude.{◌≡◌, ◌%◌, ◌<◌, ◌≤◌, length};
 ghost use Rattle.rules.specs.Table.{most_seats};
 ghost use Rattle.rules.specs.Keys.{first_of, pick_of, walk};
@@ -11,21 +13,21 @@ use rules::{Refusal, Seat};
 use splitmix::draw;
 
 // Seat, server, draws and walks; or why not.
-#[derive(Drop)]
+#[derive(Clone, Copy)]
 pub enum Lookup {
     On(Seat, u32, u32, u32),
     Refused(Refusal),
 }
 
 // Where a redraw leads, and how often it followed K.
-#[derive(Drop)]
+#[derive(Clone, Copy)]
 enum Redraw {
     To(Seat, u32),
     Lost,
 }
 
 // Where all draws lead, how many they are, and how often they followed K.
-#[derive(Drop)]
+#[derive(Clone, Copy)]
 enum Drawn {
     At(Seat, u32, u32),
     Damaged,

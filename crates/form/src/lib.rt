@@ -1,4 +1,6 @@
 // Whether bytes are a record, told by a read that never writes.
+#![tactic(auto)]
+
 ghost use Rattle.std.specs.Prelude.{◌≡◌, ◌≢◌, ◌+◌, ◌<◌, ◌≤◌, length, replicate};
 ghost use Rattle.rules.specs.Table.{most_seats};
 ghost use Rattle.promises.specs.Decides.{Decides};
@@ -15,7 +17,7 @@ use fields::{
 use rules::{MOST_SEATS, Seat};
 
 // a and N of a record's table, or no record.
-#[derive(Drop)]
+#[derive(Clone, Copy)]
 pub enum Recorded {
     Of(usize, usize),
     Bad,

@@ -1,4 +1,6 @@
 // Lists of ids: whether one is among them, where it stands, and whether one occurs twice.
+#![tactic(auto)]
+
 ghost use Rattle.std.specs.Prelude.{◌≡◌, not, ◌&&◌, eqb};
 ghost use Rattle.rules.specs.Ids.{occurs, repeats, place_of};
 

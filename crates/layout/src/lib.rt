@@ -1,4 +1,6 @@
 // Lays out the words of an opening in a lent run, part by part.
+#![tactic(auto)]
+
 ghost use Rattle.std.specs.Prelude.{◌≡◌, ℕ, ◌+◌, ◌<◌, ◌≤◌, ◌^◌, length, set};
 ghost use Rattle.rules.specs.Table.{◌!◌, base, table, words, table_for};
 ghost use Rattle.rules.specs.Changes.{opened, open_a, open_r, open_s, open_bare};

@@ -1,4 +1,6 @@
 // Lines of the program `seats`: a cursor that reads words and numbers, and the command that a line is.
+#![tactic(auto)]
+
 ghost use Rattle.std.specs.Prelude.{◌≡◌, ◌*◌, ◌≤◌, length, drop};
 ghost use Rattle.lines.specs.Lines.{next, last, most_id, ids_behind, starts, with_a, command_of};
 ghost use Rattle.lines.specs.Readings.{next_of, Last, after_first, ids_read, IsLine};
@@ -14,13 +16,13 @@ const MOST_ID: u64 = 0xffff_ffff;
 const MOST_KEY: u64 = 0xffff_ffff_ffff_ffff;
 
 // A place in a line.
-#[derive(Drop)]
+#[derive(Clone, Copy)]
 struct Cursor {
     at: usize,
 }
 
 // The words that a line can begin with.
-#[derive(Drop)]
+#[derive(Clone, Copy)]
 enum Word {
     Open,
     Seat,
@@ -29,21 +31,21 @@ enum Word {
 }
 
 // A word, and the cursor behind it.
-#[derive(Drop)]
+#[derive(Clone, Copy)]
 enum First {
     Is(Word, Cursor),
     Bad,
 }
 
 // A number, and the cursor behind it.
-#[derive(Drop)]
+#[derive(Clone, Copy)]
 enum Next {
     Is(u64, Cursor),
     Bad,
 }
 
 // A command; the ids of Open stand in a lent list, and are so many.
-#[derive(Drop)]
+#[derive(Clone, Copy)]
 pub enum Line {
     Open(u32, usize),
     Seat(u32),

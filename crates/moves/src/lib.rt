@@ -1,4 +1,6 @@
 // Taking out a seat and seating the last one out, in a run that allows it.
+#![tactic(auto)]
+
 ghost use Rattle.std.specs.Prelude.{◌≡◌, ◌+◌, ◌-◌, ◌<◌, set};
 ghost use Rattle.rules.specs.Table.{base, words, table_for};
 ghost use Rattle.rules.specs.Runs.{Shape, Legal};

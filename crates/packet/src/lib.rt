@@ -1,4 +1,6 @@
 // The key of a packet, from its IP header.
+#![tactic(auto)]
+
 ghost use Rattle.std.specs.Prelude.{◌≡◌, ◌+◌, ◌*◌, ◌^◌, ◌≤◌, length};
 ghost use Rattle.std.specs.Int.Bits.{bit_xor};
 ghost use Rattle.splitmix.specs.Generator.{output};
@@ -30,7 +32,7 @@ const UDP: u8 = 17;
 const HALF: u64 = 0x1_0000_0000;
 
 // What a header says of its packet: where the header ends, where the packet ends, what it carries, and whether it is a fragment.
-#[derive(Drop)]
+#[derive(Clone, Copy)]
 struct Header {
     end: usize,
     total: usize,
@@ -39,21 +41,21 @@ struct Header {
 }
 
 // Both ports as one number, or none: they are wanted, and lie beyond the packet's end.
-#[derive(Drop)]
+#[derive(Clone, Copy)]
 enum Ports {
     Are(u32),
     Beyond,
 }
 
 // A key, or none: the packet breaks the rules.
-#[derive(Drop)]
+#[derive(Clone, Copy)]
 enum Made {
     Key(u64),
     Broken,
 }
 
 // The key is written, or why it is not.
-#[derive(Drop)]
+#[derive(Clone, Copy)]
 pub enum Keyed {
     Written,
     Refused(Refusal),

@@ -1,4 +1,6 @@
 // The parts of a lent run: its shape, and reads in each part, with seats and positions kept apart.
+#![tactic(auto)]
+
 ghost use Rattle.std.specs.Prelude.{◌≡◌, ◌+◌, ◌<◌, ◌≤◌, ◌^◌, length};
 ghost use Rattle.rules.specs.Table.{◌!◌, base, part, table_for};
 ghost use Rattle.rules.specs.Runs.{Shape};
@@ -35,7 +37,7 @@ pub fn start(a: usize, k: usize) -> usize
     FRONT + k * a
 }
 
-#[derive(Drop)]
+#[derive(Clone, Copy)]
 pub enum Size {
     Is(usize),
     Illegal,

@@ -1,4 +1,6 @@
 // Saving a table as a record of bytes, and loading it.
+#![tactic(auto)]
+
 ghost use Rattle.std.specs.Prelude.{◌≡◌, ◌+◌, ◌-◌, ◌<◌, ◌≤◌, length, set};
 ghost use Rattle.std.proofs.lemmas.List.Edits.{sets};
 ghost use Rattle.rules.specs.Table.{◌!◌, words, table_for, base};
@@ -25,14 +27,14 @@ use rules::{Refusal, Seat};
 use steps::put_s;
 
 // The bytes written, or why none were.
-#[derive(Drop)]
+#[derive(Clone, Copy)]
 pub enum Saved {
     Bytes(usize),
     Refused(Refusal),
 }
 
 // The seats in use after a load, or why it is refused.
-#[derive(Drop)]
+#[derive(Clone, Copy)]
 pub enum Loaded {
     Used(u32),
     Refused(Refusal),

@@ -18,9 +18,9 @@ theorem = refl
 pub count_opens : (a : ℕ) → Free (open_refusals a (count a 11)) → a ≤ most_seats → Opens a (count a 11)
 count_opens a free most = record { free = free; each = λ i h. omega (arith, length_count a 11, count_at a 11 i (omega (arith, length_count a 11))) }
 
-front : (T : Table) (h k : List Change) → Accepted T (h ++ k) → Accepted T h
-front T [] k all = done
-front T (c ∷ h) k (then first rest) = then first (front _ h k rest)
+front : (h k : List Change) (T : Table) → Accepted T (h ++ k) → Accepted T h
+front [] k T all = done
+front (c ∷ h) k T (then first rest) = then first (front h k _ rest)
 
 -- one more is taken out
 pub out_next : {T : Table} {id b : ℕ} {h : List Change} → first_that (out_refusals T id) (λ r. false) true ≡ true → place_of id T.S ≡ b
@@ -37,9 +37,9 @@ pub all_happen : AllHappen
 unfolding opened occurs repeats place_of
 all_happen =
     let seven = count_opens 7 (computed_free _ refl) (omega arith) in (
-      record { opens = seven; accepted = front _ h1 _ eighth },
-      record { opens = seven; accepted = front _ h2 _ eighth },
-      record { opens = seven; accepted = front _ h3 _ eighth },
+      record { opens = seven; accepted = front h1 _ _ eighth },
+      record { opens = seven; accepted = front h2 _ _ eighth },
+      record { opens = seven; accepted = front h3 _ _ eighth },
       record { opens = seven; accepted = eighth },
       record { opens = count_opens 1 (computed_free _ refl) (omega arith); accepted = done },
       record { opens = count_opens 2 (computed_free _ refl) (omega arith); accepted = out_next refl refl done },

@@ -1,4 +1,6 @@
 // Document 01 as definitions (specs/), its examples (proofs/), and the types that calls speak in.
+#![tactic(auto)]
+
 ghost use Rattle.std.specs.Prelude.{◌≡◌};
 ghost use Rattle.rules.specs.Answers.{number_of};
 
@@ -6,15 +8,15 @@ ghost use Rattle.rules.specs.Answers.{number_of};
 pub const MOST_SEATS: usize = 2048;
 
 // The paper's bucket.
-#[derive(Drop)]
+#[derive(Clone, Copy)]
 pub struct Seat(pub u32);
 
 // A place in the working line. W and L are the only ways between the two.
-#[derive(Drop)]
+#[derive(Clone, Copy)]
 pub struct Position(pub u32);
 
 // Why a call refuses; `number_of` gives each its number.
-#[derive(Drop)]
+#[derive(Clone, Copy)]
 pub enum Refusal {
     Size,
     Count,

@@ -1,4 +1,6 @@
 // Standard input to standard output. One byte more than an input may have is read, so that a longer one is seen.
+#![tactic(auto)]
+
 use libc::{STDIN_FILENO, STDOUT_FILENO};
 use transcript::{MOST_INPUT, MOST_OUTPUT};
 

@@ -12,7 +12,7 @@ member? (x ∷ l) v = elim (ℕ_discrete x v) [
   | yes e ↦ inl (0, omega arith, e)
   | no ne ↦ elim (member? l v) [
     | inl m ↦ inl (suc m.0, omega arith, m.2)
-    | inr a ↦ inr (λ i. elim i [ zero ↦ λ h. ne | suc j ↦ λ h. a j (omega arith) ])
+    | inr a ↦ inr (λ i. elim i as (λ k. k < length (x ∷ l) → (x ∷ l) ! k ≢ v) [ zero ↦ λ h. ne | suc j ↦ λ h. a j (omega arith) ])
   ]
 ]
 

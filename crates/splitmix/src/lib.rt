@@ -1,4 +1,6 @@
 // SplitMix64: any output of the generator, from the number that it is started at.
+#![tactic(auto)]
+
 ghost use Rattle.std.specs.Prelude.{◌≡◌, ◌*◌, ◌%◌, ◌^◌, ◌<◌};
 ghost use Rattle.splitmix.specs.Generator.{mixed, scrambled, output};
 

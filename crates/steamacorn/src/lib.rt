@@ -1,4 +1,6 @@
 // What C and Rust link: each call answers its number, and its values go out through the last parameters.
+#![tactic(auto)]
+
 ghost use Rattle.std.specs.Prelude.{[], ◌∷◌};
 ghost use Rattle.audit.specs.Audit.{audit_call};
 ghost use Rattle.changes.specs.Calls.{open_call, seat_call, out_call};

@@ -1,4 +1,6 @@
 // The steps of a change: a store into each part, which is lent to the function that stores.
+#![tactic(auto)]
+
 ghost use Rattle.std.specs.Prelude.{◌≡◌, ◌+◌, ◌<◌, length, set};
 ghost use Rattle.rules.specs.Table.{base};
 ghost use Rattle.parts.specs.Shape.{Lent};

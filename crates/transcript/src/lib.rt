@@ -1,4 +1,6 @@
 // The program `seats` as a function on bytes: from its input to its output.
+#![tactic(auto)]
+
 ghost use Rattle.std.specs.Prelude.{◌≡◌, [], ◌∷◌, ◌+◌, ◌*◌, ◌≤◌, ◌<◌, length, replicate};
 ghost use Rattle.io.specs.Counts.{IsPrefixLen};
 ghost use Rattle.rules.specs.Table.{run_length, most_seats};
@@ -33,7 +35,7 @@ pub const MOST_OUTPUT: usize = BYTE_ROOM * MOST_INPUT;
 const LINE: u32 = 11;
 
 // What a line is answered.
-#[derive(Drop)]
+#[derive(Clone, Copy)]
 enum Reply {
     One(u32),
     Four(u32, u32, u32, u32),
@@ -95,7 +97,7 @@ fn put_reply(out: &mut [u8], at: usize, reply: Reply) -> usize
 }
 
 // A line's answer, and how many of the lent words are the table after it.
-#[derive(Drop)]
+#[derive(Clone, Copy)]
 struct Answered {
     reply: Reply,
     len: usize,

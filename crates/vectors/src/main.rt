@@ -1,5 +1,7 @@
 // Prints outputs of SplitMix64: the published ones, every pair of edges, and sums over blocks of pairs. An independent
 // program prints the same text from the same rule, and `stdout` is that program's.
+#![tactic(auto)]
+
 use libc::STDOUT_FILENO;
 use splitmix::{draw, product};
 use std::num::wrapping_add_u64;

@@ -1,5 +1,5 @@
 -- `changes::open_table` meets its contract: each way out is the first refusal that applies, or there is none.
-use Rattle.promises.proofs.Prelude.{◌≡◌, ◌∙◌, sym, ap, not, List, [], ◌∷◌, ℕ, length, needs, ne_eqb, eq-eqb, le-ltb, lt-ltb}
+use Rattle.promises.proofs.Prelude.{◌≡◌, ◌∙◌, sym, ap, not, List, [], ◌∷◌, ℕ, length, rules, ne_eqb, eq-eqb, le-ltb, lt-ltb}
 use Rattle.rules.specs.Table.{run_length, most_seats}
 use Rattle.rules.specs.Answers.{refused_at, done, none, more}
 use Rattle.rules.specs.History.{list_refusals}
@@ -67,5 +67,5 @@ returns-8 c =
 pub open_table_spec : {M : Type 1} → statement M
 open_table_spec =
     tie.close
-    (tie.spec returns returns-2 (λ c κs. search needs) returns-3 returns-4 returns-5 (λ c κs. search needs) (λ c κs. search needs) returns-6 returns-7
-    (λ c κs. search needs) (λ c. search needs) (λ c. search needs) returns-8)
+    (tie.spec returns returns-2 (λ c κs. search rules) returns-3 returns-4 returns-5 (λ c κs. search rules) (λ c κs. search rules) returns-6 returns-7
+    (λ c κs. search rules) (λ c. search rules) (λ c. search rules) returns-8)

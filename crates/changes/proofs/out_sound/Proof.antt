@@ -1,5 +1,5 @@
 -- `changes::out_sound` meets its contract: each way out is the first refusal that applies, or there is none.
-use Rattle.promises.proofs.Prelude.{◌≡◌, ◌∙◌, sym, ap, ◌≢◌, true, false, not, List, [], ◌∷◌, ℕ, arith, eqb, needs, ne_eqb, eq-eqb}
+use Rattle.promises.proofs.Prelude.{◌≡◌, ◌∙◌, sym, ap, ◌≢◌, true, false, not, List, [], ◌∷◌, ℕ, arith, eqb, rules, ne_eqb, eq-eqb}
 use Rattle.rules.specs.Table.{◌!◌, words, table_of}
 use Rattle.rules.specs.Changes.{take_out}
 use Rattle.rules.specs.Ids.{occurs}
@@ -66,7 +66,7 @@ out_sound_spec =
     (tie.spec returns
     (λ c κs. c.before.before.before.requires)
     (λ c κs. long _ c.before.before.before.before.before.before.requires)
-    (λ c. search needs) returns-2
+    (λ c. search rules) returns-2
     (λ c κs. let t = c.before.before.before.before in (t.before.before.before.before.before.requires, there t))
     (λ c κs. omega (arith, long _ c.before.before.before.before.before.before.before.before.before.before.before.requires))
-    (λ c. search needs) take-out-seat-requires (λ c. search needs) returns-3 (λ c. search needs) returns-4)
+    (λ c. search rules) take-out-seat-requires (λ c. search rules) returns-3 (λ c. search rules) returns-4)

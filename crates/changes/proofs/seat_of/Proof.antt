@@ -1,5 +1,5 @@
 -- `changes::seat_of` meets its contract: the id stands in the part S, which has a words.
-use Rattle.promises.proofs.Prelude.{◌≡◌, ◌∙◌, ap, arith, needs}
+use Rattle.promises.proofs.Prelude.{◌≡◌, ◌∙◌, ap, arith, rules}
 use Rattle.rules.specs.Table.{table_of}
 use Rattle.rules.specs.Ids.{place_of}
 use Rattle.sound.proofs.Sound.{sound_legal}
@@ -14,4 +14,4 @@ cast-t5 : tie.Need-overflow-cast-t5
 cast-t5 c = let s = c.before.before.before.requires in omega (arith, place c, place_below _ s.0 _ s.1, (sound_legal s.0).shape.most)
 
 pub seat_of_spec : {M : Type 1} → statement M
-seat_of_spec = tie.close (tie.spec (λ c κs. search needs) (λ c κs. search needs) cast-t5 place)
+seat_of_spec = tie.close (tie.spec (λ c κs. search rules) (λ c κs. search rules) cast-t5 place)

@@ -1,5 +1,5 @@
 -- `changes::seat_server` meets its contract: it refuses as the audit does, or the table is sound.
-use Rattle.promises.proofs.Prelude.{needs}
+use Rattle.promises.proofs.Prelude.{rules}
 use Rattle.audit.proofs.Told.{fine_sound}
 use Rattle.changes.proofs.Told.{seat_refused}
 use Rattle.changes.proofs.seat_server.Statement.{statement}
@@ -18,5 +18,5 @@ returns-2 c =
 pub seat_server_spec : {M : Type 1} → statement M
 seat_server_spec =
     tie.close
-    (tie.spec (λ c κs. search needs) (λ c. search needs) (λ c. search needs) seat-sound-requires (λ c. search needs) (λ c. search needs) (λ c. search needs)
+    (tie.spec (λ c κs. search rules) (λ c. search rules) (λ c. search rules) seat-sound-requires (λ c. search rules) (λ c. search rules) (λ c. search rules)
     returns-2)

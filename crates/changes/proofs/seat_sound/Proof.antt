@@ -1,5 +1,5 @@
 -- `changes::seat_sound` meets its contract: each way out is the first refusal that applies, or there is none.
-use Rattle.promises.proofs.Prelude.{◌≡◌, ◌∙◌, sym, ap₂, ◌≢◌, false, List, [], ◌∷◌, ℕ, arith, eqb, needs, ne_eqb, eq-eqb}
+use Rattle.promises.proofs.Prelude.{◌≡◌, ◌∙◌, sym, ap₂, ◌≢◌, false, List, [], ◌∷◌, ℕ, arith, eqb, rules, ne_eqb, eq-eqb}
 use Rattle.rules.specs.Table.{◌!◌, table_of}
 use Rattle.rules.specs.Ids.{occurs}
 use Rattle.rules.specs.Answers.{done, none, more}
@@ -59,8 +59,8 @@ seat_sound_spec =
     tie.close
     (tie.spec returns
     (λ c κs. c.before.before.before.requires)
-    (λ c. search needs) returns-2
+    (λ c. search rules) returns-2
     (λ c κs. omega (arith, long _ c.before.before.before.before.before.before.requires))
-    (λ c. search needs)
+    (λ c. search rules)
     (λ c κs. long _ c.before.before.before.before.before.before.before.before.requires)
-    (λ c. search needs) (λ c. search needs) returns-3 seat-last-requires (λ c. search needs) returns-4)
+    (λ c. search rules) (λ c. search rules) returns-3 seat-last-requires (λ c. search rules) returns-4)

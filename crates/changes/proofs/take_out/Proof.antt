@@ -1,5 +1,5 @@
 -- `changes::take_out` meets its contract: it refuses as the audit does, or the table is sound.
-use Rattle.promises.proofs.Prelude.{needs}
+use Rattle.promises.proofs.Prelude.{rules}
 use Rattle.audit.proofs.Told.{fine_sound}
 use Rattle.changes.proofs.Told.{out_refused}
 use Rattle.changes.proofs.take_out.Statement.{statement}
@@ -18,5 +18,5 @@ returns-2 c =
 pub take_out_spec : {M : Type 1} → statement M
 take_out_spec =
     tie.close
-    (tie.spec (λ c κs. search needs) (λ c. search needs) (λ c. search needs) out-sound-requires (λ c. search needs) (λ c. search needs) (λ c. search needs)
+    (tie.spec (λ c κs. search rules) (λ c. search rules) (λ c. search rules) out-sound-requires (λ c. search rules) (λ c. search rules) (λ c. search rules)
     returns-2)

@@ -1,5 +1,5 @@
 -- `lines::command` meets its contract: a word, and what has to follow it.
-use Rattle.promises.proofs.Prelude.{◌≡◌, refl, ap, List, [], ℕ, arith, drop, needs}
+use Rattle.promises.proofs.Prelude.{◌≡◌, refl, ap, List, [], ℕ, arith, drop, rules}
 use Rattle.decimals.specs.Decimal.{Read}
 use Rattle.lines.specs.Lines.{given, Command, seat_line, out_line, find_line, command_of}
 use Rattle.lines.specs.Readings.{last_of, value_of, Last, behind_word, ids_read, line_from, IsLine}
@@ -22,20 +22,20 @@ told c e = rw (c.before.word2.given.1, e) at c.before.before.before.word.ensures
 pub command_spec : {M : Type 1} → statement M
 command_spec =
     tie.close
-    (tie.spec (search needs) (search needs) (search needs)
-    (λ c. rw (← c.before.before.word.ensures, c.enum_told.given.1) (record { line = refl; stand = refl })) (search needs) (search needs) (search needs)
-    (search needs) (search needs) (search needs)
+    (tie.spec (search rules) (search rules) (search rules)
+    (λ c. rw (← c.before.before.word.ensures, c.enum_told.given.1) (record { line = refl; stand = refl })) (search rules) (search rules) (search rules)
+    (search rules) (search rules) (search rules)
     (λ c. let l = c.before.before in one_number seat_line _ (told l.before.before.before l.before.enum-told3.given.1) l.last.ensures
     c.enum-told4.given.1)
-    (λ c. omega (arith, c.before.before.before.last.ensures.most, ap value_of c.before.id.given.1)) (search needs) (search needs) (search needs)
-    (search needs)
+    (λ c. omega (arith, c.before.before.before.last.ensures.most, ap value_of c.before.id.given.1)) (search rules) (search rules) (search rules)
+    (search rules)
     (λ c. let l = c.before.before in one_number out_line _ (told l.before.before.before l.before.enum-told5.given.1) l.last2.ensures
     c.enum-told6.given.1)
-    (λ c. omega (arith, c.before.before.before.last2.ensures.most, ap value_of c.before.id2.given.1)) (search needs) (search needs) (search needs)
-    (search needs)
+    (λ c. omega (arith, c.before.before.before.last2.ensures.most, ap value_of c.before.id2.given.1)) (search rules) (search rules) (search rules)
+    (search rules)
     (λ c. let l = c.before.before in one_number find_line _ (told l.before.before.before l.before.enum-told7.given.1) l.last3.ensures
     c.enum-told8.given.1)
-    (search needs)
+    (search rules)
     (λ c. let w = c.before.before.before.before in rw (told w.before.before w.enum-told2.given.1) at c.before.before.open-line.ensures)
     (λ c. let l = c.before.before.before in one_number seat_line _ (told l.before.before.before l.before.enum-told3.given.1) l.last.ensures
     c.before.id.given.1)

@@ -1,5 +1,5 @@
 -- `record::build` meets its contract: a full table is laid out, the removals are made, and the servers stand in S last.
-use Rattle.promises.proofs.Prelude.{arith, needs}
+use Rattle.promises.proofs.Prelude.{arith, rules}
 use Rattle.rules.specs.Table.{part}
 use Rattle.layout.proofs.Laid.{part_long}
 use Rattle.record.proofs.Built.{laid_none}
@@ -14,4 +14,4 @@ take-all-requires c κs =
     (g, laid_none g b.lay-bare.new.0 (part s.args.a 5 s.args.t.now) (part_long s.args.t.now s.args.a 5 (omega (arith, s.requires.1.size))) b.lay-bare.ensures)
 
 pub build_spec : {M : Type 1} → statement M
-build_spec = tie.close (tie.spec (λ c κs. search needs) take-all-requires (λ c κs. search needs) (λ c. search needs) (λ c. search needs))
+build_spec = tie.close (tie.spec (λ c κs. search rules) take-all-requires (λ c κs. search rules) (λ c. search rules) (λ c. search rules))

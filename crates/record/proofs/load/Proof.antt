@@ -1,5 +1,5 @@
 -- `record::load` meets its contract: each way out is one of `Loads`.
-use Rattle.promises.proofs.Prelude.{◌≡◌, refl, ◌∙◌, sym, arith, length, needs}
+use Rattle.promises.proofs.Prelude.{◌≡◌, refl, ◌∙◌, sym, arith, length, rules}
 use Rattle.rules.specs.Table.{run_length}
 use Rattle.fields.proofs.Places.{only}
 use Rattle.form.specs.declared.Recorded.TheVariants.{Of}
@@ -33,9 +33,9 @@ returns-3 c =
 pub load_spec : {M : Type 1} → statement M
 load_spec =
     tie.close
-    (tie.spec (λ c κs. search needs) (λ c. search needs) (λ c. search needs)
+    (tie.spec (λ c κs. search rules) (λ c. search rules) (λ c. search rules)
     (λ c. load_form _ _ (sym c.before.before.form_of.ensures ∙ c.enum_told.given.1))
     (λ c κs. omega (arith, (good _ _ _ (form c.before) refl).head.most))
     returns-2 build-requires
     (λ c. let g = good _ _ _ (form c.before.before.before.before.before.before.before) refl in omega (arith, g.head.fit, g.head.most))
-    (λ c. search needs) returns-3)
+    (λ c. search rules) returns-3)

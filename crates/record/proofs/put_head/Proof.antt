@@ -1,5 +1,5 @@
 -- `record::put_head` meets its contract: its fields follow each other.
-use Rattle.promises.proofs.Prelude.{arith, needs}
+use Rattle.promises.proofs.Prelude.{arith, rules}
 use Rattle.fields.specs.Numbers.{bytes}
 use Rattle.fields.specs.Form.{head_mark, field, mark_length}
 use Rattle.fields.proofs.Numbers.{length_bytes}
@@ -23,6 +23,6 @@ returns c =
 pub put_head_spec : {M : Type 1} → statement M
 put_head_spec =
     tie.close
-    (tie.spec (λ c κs. search needs)
+    (tie.spec (λ c κs. search rules)
     (λ c κs. let h = c.before.before in (omega (arith, h.before.before.requires), rw h.head-mark.ensures (head_two h.before.before.args.f)))
-    (λ c κs. search needs) (λ c κs. search needs) (λ c κs. search needs) (λ c κs. search needs) (λ c. search needs) returns)
+    (λ c κs. search rules) (λ c κs. search rules) (λ c κs. search rules) (λ c κs. search rules) (λ c. search rules) returns)

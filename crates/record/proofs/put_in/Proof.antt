@@ -1,5 +1,5 @@
 -- `record::put_in` meets its contract: its fields follow each other.
-use Rattle.promises.proofs.Prelude.{refl, ◌++◌, ◌+◌, arith, needs}
+use Rattle.promises.proofs.Prelude.{refl, ◌++◌, ◌+◌, arith, rules}
 use Rattle.fields.specs.Numbers.{bytes}
 use Rattle.fields.specs.Form.{field, in_mark, server_length, out_length}
 use Rattle.fields.proofs.Numbers.{length_bytes}
@@ -20,4 +20,4 @@ returns c =
     b.put_first.ensures id.put_id.ensures)
 
 pub put_in_spec : {M : Type 1} → statement M
-put_in_spec = tie.close (tie.spec (λ c κs. search needs) (λ c κs. search needs) (λ c κs. search needs) (λ c. search needs) returns)
+put_in_spec = tie.close (tie.spec (λ c κs. search rules) (λ c κs. search rules) (λ c κs. search rules) (λ c. search rules) returns)

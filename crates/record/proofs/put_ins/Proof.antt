@@ -1,5 +1,5 @@
 -- `record::put_ins` meets its contract. The loop's invariant: the records of the seats below b are put, and the next goes after them.
-use Rattle.promises.proofs.Prelude.{◌≡◌, refl, sym, ◌-◌, ◌≤◌, ◌+◌, add-zero, add-one, arith, length, length-append, sets, needs}
+use Rattle.promises.proofs.Prelude.{◌≡◌, refl, sym, ◌-◌, ◌≤◌, ◌+◌, add-zero, add-one, arith, length, length-append, sets, rules}
 use Rattle.rules.specs.Table.{table_for}
 use Rattle.saved.specs.Record.{each, seat_record}
 use Rattle.saved.proofs.Each.{length_within, put_next}
@@ -25,8 +25,8 @@ loop-again c =
     let s = l.before.before.before.args in
     let f = seat_record s.f (table_for s.a s.t.now) in
     let b = l.loop.b in (
-      search needs,
-      search needs,
+      search rules,
+      search rules,
       rw (add-one b, length-append (each f b) (f b)) (omega (arith, p.put-seat.ensures.0)),
       put_next s.out.now s.at f b (sym l.loop.invariant.2) l.loop.invariant.3 p.put-seat.ensures.1,
     )
@@ -35,6 +35,6 @@ pub put_ins_spec : {M : Type 1} → statement M
 put_ins_spec =
     tie.close
     (tie.spec invariant-loop decreases-loop
-    (λ c. (search needs, refl, sym (add-zero _), refl))
-    (λ c. search needs) put-seat-requires (λ c. search needs) (λ c. search needs) loop-again (λ c. search needs)
+    (λ c. (search rules, refl, sym (add-zero _), refl))
+    (λ c. search rules) put-seat-requires (λ c. search rules) (λ c. search rules) loop-again (λ c. search rules)
     (λ c. let end : c.before.loop.b ≡ c.before.before.before.before.args.a = omega arith in rw end at c.before.loop.invariant.3))

@@ -1,5 +1,5 @@
 -- `record::put_out` meets its contract: its fields follow each other.
-use Rattle.promises.proofs.Prelude.{refl, needs}
+use Rattle.promises.proofs.Prelude.{refl, rules}
 use Rattle.fields.specs.Numbers.{bytes}
 use Rattle.fields.specs.Form.{field, out_mark}
 use Rattle.saved.proofs.Each.{put_then}
@@ -14,4 +14,4 @@ returns c =
     put_then s.out.now s.at out_mark (bytes (field s.f) s.b.0) refl mark.put-mark.ensures b.put_first.ensures
 
 pub put_out_spec : {M : Type 1} → statement M
-put_out_spec = tie.close (tie.spec (λ c κs. search needs) (λ c κs. search needs) (λ c. search needs) returns)
+put_out_spec = tie.close (tie.spec (λ c κs. search rules) (λ c κs. search rules) (λ c. search rules) returns)

@@ -1,5 +1,5 @@
 -- `record::put_outs` meets its contract. The loop's invariant: the records of the first i entries are put.
-use Rattle.promises.proofs.Prelude.{◌≡◌, refl, ◌-◌, ◌≤◌, arith, length, sets, needs}
+use Rattle.promises.proofs.Prelude.{◌≡◌, refl, ◌-◌, ◌≤◌, arith, length, sets, rules}
 use Rattle.rules.specs.Table.{table_for}
 use Rattle.saved.specs.Record.{each, removal_record}
 use Rattle.fields.specs.Form.{out_at}
@@ -23,8 +23,8 @@ loop-again c =
     let s = l.before.before.before in
     let f = s.args.f in
     let T = table_for s.args.a s.args.t.now in (
-      search needs,
-      search needs,
+      search rules,
+      search rules,
       put_next s.args.out.now (out_at f 0) (removal_record f T) l.loop.i (removals_end f T l.loop.i) l.loop.invariant.2
           (rw (r.get-r.ensures, r.before.out_at.ensures) at p.put-out.ensures),
     )
@@ -32,12 +32,12 @@ loop-again c =
 pub put_outs_spec : {M : Type 1} → statement M
 put_outs_spec =
     tie.close
-    (tie.spec invariant-loop decreases-loop (λ c. (search needs, refl, refl))
+    (tie.spec invariant-loop decreases-loop (λ c. (search rules, refl, refl))
     (λ c κs. let s = c.before.before.before.before.before.args in omega (arith, out_within s.f c.before.before.loop.i s.m (omega arith)))
-    (λ c κs. search needs)
+    (λ c κs. search rules)
     (λ c κs.
     let l = c.before.before.before.before in
     let s = l.before.before.before in
     omega (arith, s.requires, l.loop.invariant, out_within s.args.f l.loop.i s.args.m (omega arith)))
-    (λ c. search needs) (λ c. search needs) loop-again (λ c. search needs)
+    (λ c. search rules) (λ c. search rules) loop-again (λ c. search rules)
     (λ c. let end : c.before.loop.i ≡ c.before.before.before.before.args.m = omega arith in rw end at c.before.loop.invariant.2))

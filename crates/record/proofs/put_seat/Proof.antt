@@ -1,5 +1,5 @@
 -- `record::put_seat` meets its contract: a seat in use has a record, and another none.
-use Rattle.promises.proofs.Prelude.{refl, ◌∙◌, sym, ◌≤◌, ◌+◌, add-zero, arith, length, needs, ne_eqb, eq-eqb}
+use Rattle.promises.proofs.Prelude.{refl, ◌∙◌, sym, ◌≤◌, ◌+◌, add-zero, arith, length, rules, ne_eqb, eq-eqb}
 use Rattle.fields.specs.Form.{in_length}
 use Rattle.saved.proofs.Ranks.{length_in}
 use Rattle.record.proofs.put_seat.Statement.{statement}
@@ -19,9 +19,9 @@ returns-2 c =
 pub put_seat_spec : {M : Type 1} → statement M
 put_seat_spec =
     tie.close
-    (tie.spec (λ c κs. search needs)
+    (tie.spec (λ c κs. search rules)
     (λ c. rw (ne_eqb _ 0 (λ z. c.if1.true (c.before.get-a.ensures ∙ z))) (sym (add-zero _), refl))
-    (λ c κs. search needs) (λ c κs. room c.before.before) (λ c κs. search needs)
+    (λ c κs. search rules) (λ c κs. room c.before.before) (λ c κs. search rules)
     (λ c. omega (arith, c.second, room c.before.before.before.before.before.before))
     (λ c. omega (arith, c.second, room c.before.before.before.before.before.before))
-    (λ c. search needs) returns-2)
+    (λ c. search rules) returns-2)

@@ -1,5 +1,5 @@
 -- `record::put_server` meets its contract: a seat in use has a server, and another none.
-use Rattle.promises.proofs.Prelude.{◌≡◌, ◌∙◌, sym, ap, List, ℕ, ◌≤◌, ◌+◌, add-one, arith, length, needs, ne_eqb, eq-eqb}
+use Rattle.promises.proofs.Prelude.{◌≡◌, ◌∙◌, sym, ap, List, ℕ, ◌≤◌, ◌+◌, add-one, arith, length, rules, ne_eqb, eq-eqb}
 use Rattle.rules.specs.Table.{◌!◌, Table}
 use Rattle.fields.specs.Form.{in_length, in_at}
 use Rattle.saved.specs.Reader.{bare_from}
@@ -42,11 +42,11 @@ returns-2 c =
 pub put_server_spec : {M : Type 1} → statement M
 put_server_spec =
     tie.close
-    (tie.spec (λ c κs. search needs) (λ c κs. search needs) (λ c. search needs) returns
+    (tie.spec (λ c κs. search rules) (λ c κs. search rules) (λ c. search rules) returns
     (λ c κs. omega (arith, room c.before))
     (λ c κs. omega (arith, room c.before.before))
-    (λ c κs. search needs)
+    (λ c κs. search rules)
     (λ c.
     let s = c.before.before.before.before.before.before.before.before.before.before.before in
     omega (arith, s.requires.is_rank, s.requires.below, rank_most (A s) s.args.b.0))
-    (λ c. search needs) returns-2)
+    (λ c. search rules) returns-2)

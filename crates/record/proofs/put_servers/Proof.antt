@@ -1,5 +1,5 @@
 -- `record::put_servers` meets its contract. The loop's invariant: the seats below b have their servers, and j of them are in use.
-use Rattle.promises.proofs.Prelude.{◌≡◌, refl, ◌-◌, ◌≤◌, arith, length, needs}
+use Rattle.promises.proofs.Prelude.{◌≡◌, refl, ◌-◌, ◌≤◌, arith, length, rules}
 use Rattle.saved.specs.Reader.{rank, bare_from}
 use Rattle.saved.specs.Fits.{Good}
 use Rattle.saved.proofs.Exact.{outs_rank}
@@ -24,12 +24,12 @@ loop-again : tie.Need-loop-preserved invariant-loop decreases-loop
 loop-again c =
     let p = c.before.before in
     let l = p.before.before.before in
-    (search needs, search needs, p.put-server.ensures.0, λ g. served_next g _ _ l.loop.b (omega arith) (l.loop.invariant.3 g) p.put-server.ensures.1)
+    (search rules, search rules, p.put-server.ensures.0, λ g. served_next g _ _ l.loop.b (omega arith) (l.loop.invariant.3 g) p.put-server.ensures.1)
 
 pub put_servers_spec : {M : Type 1} → statement M
 put_servers_spec =
     tie.close
-    (tie.spec invariant-loop decreases-loop (λ c. search needs)
-    (λ c. (search needs, refl, refl, λ g. served_none g _ c.before.before.requires.1))
-    (λ c. search needs) put-server-requires (λ c. search needs) (λ c. search needs) loop-again (λ c. search needs)
+    (tie.spec invariant-loop decreases-loop (λ c. search rules)
+    (λ c. (search rules, refl, refl, λ g. served_none g _ c.before.before.requires.1))
+    (λ c. search rules) put-server-requires (λ c. search rules) (λ c. search rules) loop-again (λ c. search rules)
     (λ c. let g = c.before.before.before.before.requires.0 in served_all g _ c.before.loop.b (omega arith) (c.before.loop.invariant.3 g)))

@@ -1,5 +1,5 @@
 -- `record::save` meets its contract: it refuses as the audit does, or the table is sound.
-use Rattle.promises.proofs.Prelude.{needs}
+use Rattle.promises.proofs.Prelude.{rules}
 use Rattle.audit.proofs.Told.{fine_sound}
 use Rattle.fields.proofs.Places.{only}
 use Rattle.record.proofs.Saves.{save_refused}
@@ -19,4 +19,4 @@ returns-2 c =
 pub save_spec : {M : Type 1} → statement M
 save_spec =
     tie.close
-    (tie.spec (λ c κs. search needs) (λ c. search needs) (λ c. search needs) save-sound-requires (λ c. search needs) (λ c. search needs) returns-2)
+    (tie.spec (λ c κs. search rules) (λ c. search rules) (λ c. search rules) save-sound-requires (λ c. search rules) (λ c. search rules) returns-2)

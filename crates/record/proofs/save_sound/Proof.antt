@@ -1,5 +1,5 @@
 -- `record::save_sound` meets its contract: each way out is one of `Saves`.
-use Rattle.promises.proofs.Prelude.{◌-◌, ◌≤◌, arith, length, needs}
+use Rattle.promises.proofs.Prelude.{◌-◌, ◌≤◌, arith, length, rules}
 use Rattle.rules.specs.Table.{◌!◌, table_of}
 use Rattle.fields.specs.Form.{out_at, in_at}
 use Rattle.fields.proofs.Places.{out_first, in_first, out_small, in_small}
@@ -62,16 +62,16 @@ save_sound_spec =
     tie.close
     (tie.spec
     (λ c κs. let p = c.before.before.requires in omega (arith, long p.0 p.1))
-    (λ c. search needs)
+    (λ c. search rules)
     (λ c κs. let p = c.before.before.before.requires in long p.0 p.1)
-    (λ c. search needs)
+    (λ c. search rules)
     (λ c. let p = c.before.before.before.before.requires in omega (arith, (good p.0 p.1).test.shape.most))
     (λ c κs.
     let s = c.before.before.before.before in
     omega (arith, (sound_legal s.requires.0).shape, in_small s.args.f (c.before.get-seats.result - c.get-n.result) c.get-n.result))
-    returns (λ c. search needs) (λ c. search needs) (λ c κs. (room c.before).0) put-outs-requires
+    returns (λ c. search rules) (λ c. search rules) (λ c κs. (room c.before).0) put-outs-requires
     (λ c κs.
     let n = c.before.before.before.before.before.before.before.before.before.before.before in
     let s = n.before.before.before.before in
     omega (arith, (sound_legal s.requires.0).shape, n.before.get-seats.ensures, out_small s.args.f (n.before.get-seats.result - n.get-n.result)))
-    put-ins-requires (λ c. search needs) returns-2)
+    put-ins-requires (λ c. search rules) returns-2)

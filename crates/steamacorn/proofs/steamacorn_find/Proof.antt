@@ -1,5 +1,5 @@
 -- `steamacorn::steamacorn_find` meets its contract: it tells what the call answered, but the walks.
-use Rattle.promises.proofs.Prelude.{ap, needs}
+use Rattle.promises.proofs.Prelude.{ap, rules}
 use Rattle.steamacorn.specs.Exports.{without_walks}
 use Rattle.steamacorn.proofs.Tell.{tells_fine, tells_refused}
 use Rattle.steamacorn.proofs.steamacorn_find.Statement.{statement}
@@ -16,4 +16,4 @@ returns-2 c =
     tells_refused k.why.given.0.0 (ap without_walks (rw k.why.given.1 at k.before.before.find-server.ensures)) c.number.ensures
 
 pub steamacorn_find_spec : {M : Type 1} → statement M
-steamacorn_find_spec = tie.close (tie.spec (λ c κs. search needs) (λ c. search needs) (λ c. search needs) (λ c κs. search needs) returns returns-2)
+steamacorn_find_spec = tie.close (tie.spec (λ c κs. search rules) (λ c. search rules) (λ c. search rules) (λ c κs. search rules) returns returns-2)

@@ -1,5 +1,5 @@
 -- `steamacorn::steamacorn_find_walks` meets its contract: it tells what the call answered.
-use Rattle.promises.proofs.Prelude.{needs}
+use Rattle.promises.proofs.Prelude.{rules}
 use Rattle.steamacorn.proofs.Tell.{tells_fine, tells_refused}
 use Rattle.steamacorn.proofs.steamacorn_find_walks.Statement.{statement}
 use Rattle.steamacorn.proofs.steamacorn_find_walks.Tie as tie
@@ -15,4 +15,4 @@ returns-2 c =
     tells_refused k.why.given.0.0 (rw k.why.given.1 at k.before.before.find-server.ensures) c.number.ensures
 
 pub steamacorn_find_walks_spec : {M : Type 1} → statement M
-steamacorn_find_walks_spec = tie.close (tie.spec (λ c κs. search needs) (λ c. search needs) (λ c. search needs) (λ c κs. search needs) returns returns-2)
+steamacorn_find_walks_spec = tie.close (tie.spec (λ c κs. search rules) (λ c. search rules) (λ c. search rules) (λ c κs. search rules) returns returns-2)

@@ -1,5 +1,5 @@
 -- `steamacorn::steamacorn_load` meets its contract: it tells what the call answered.
-use Rattle.promises.proofs.Prelude.{refl, needs}
+use Rattle.promises.proofs.Prelude.{refl, rules}
 use Rattle.record.specs.Calls.{loaded_answer}
 use Rattle.steamacorn.proofs.Tell.{results_fine, results_refused}
 use Rattle.steamacorn.proofs.steamacorn_load.Statement.{statement}
@@ -14,4 +14,4 @@ returns-2 c =
     results_refused loaded_answer k.why.given.1 k.why.given.0.0 refl c.number.ensures k.before.before.before.before.load.ensures
 
 pub steamacorn_load_spec : {M : Type 1} → statement M
-steamacorn_load_spec = tie.close (tie.spec (λ c κs. search needs) (λ c. search needs) (λ c. search needs) (λ c κs. search needs) (λ c. search needs) returns (λ c. search needs) returns-2)
+steamacorn_load_spec = tie.close (tie.spec (λ c κs. search rules) (λ c. search rules) (λ c. search rules) (λ c κs. search rules) (λ c. search rules) returns (λ c. search rules) returns-2)

@@ -1,5 +1,5 @@
 -- `transcript::put_values` meets its contract. The loop's invariant: the first i numbers stand.
-use Rattle.promises.proofs.Prelude.{refl, ◌-◌, arith, length, take, needs}
+use Rattle.promises.proofs.Prelude.{refl, ◌-◌, arith, length, take, rules}
 use lib.Seq.{take_all}
 use Rattle.decimals.specs.Places.{Put}
 use Rattle.decimals.proofs.Stored.{put_then, put_length}
@@ -18,11 +18,11 @@ pub put_values_spec : {M : Type 1} → statement M
 unfolding spaced
 put_values_spec =
     tie.close
-    (tie.spec invariant-loop decreases-loop (λ c. record { fits = search needs; next = search needs; bytes = refl }) (λ c. search needs) (λ c. search needs)
+    (tie.spec invariant-loop decreases-loop (λ c. record { fits = search rules; next = search rules; bytes = refl }) (λ c. search rules) (λ c. search rules)
     (λ c κs.
     let l = c.before.before.before in
-    omega (arith, spaced_room l.before.before.before.args.values.now l.loop.i (search needs), put_length l.loop.invariant)) (λ c. search needs)
-    (λ c. search needs)
+    omega (arith, spaced_room l.before.before.before.args.values.now l.loop.i (search rules), put_length l.loop.invariant)) (λ c. search rules)
+    (λ c. search rules)
     (λ c.
     let l = c.before.before.before.before.before in
     rw (← spaced_take _ _ l.loop-test.true) at (put_then l.before.loop.invariant c.before.before.put-value.ensures))

@@ -1,5 +1,5 @@
 -- `transcript::reopen` meets its contract: opening does not look at what the run held, and a refused one leaves it.
-use Rattle.promises.proofs.Prelude.{◌≡◌, refl, ◌∙◌, sym, ap, arith, length, take, take-append-drop, length-replicate, length-take-le, needs}
+use Rattle.promises.proofs.Prelude.{◌≡◌, refl, ◌∙◌, sym, ap, arith, length, take, take-append-drop, length-replicate, length-take-le, rules}
 use Rattle.rules.specs.Table.{run_length}
 use Rattle.transcript.specs.Transcript.{reopened}
 use Rattle.transcript.specs.Replies.{table_in}
@@ -29,8 +29,8 @@ reopen_spec =
     tie.close
     (tie.spec
     (λ c. after_none _ _ c.before.before.before.requires.1 (record { answer = refl; short = omega arith }) (reopens_many _ _ _ _ c.if1.true))
-    (λ c. search needs) (λ c. search needs) (λ c. sym (length-take-le _ _ (search needs))) (λ c. search needs) (λ c. search needs) (λ c. search needs)
-    (λ c. search needs)
+    (λ c. search rules) (λ c. search rules) (λ c. sym (length-take-le _ _ (search rules))) (λ c. search rules) (λ c. search rules) (λ c. search rules)
+    (λ c. search rules)
     (λ c.
     let r = c.before.before.before.before.before in
     let s = r.before.before.before.before.before.before.args in
@@ -38,4 +38,4 @@ reopen_spec =
     let e = rw c.before.used.given.1 at r.open-table.ensures in
     after_call s.t.now _ _ (omega (arith, lent r, r.before.before.start.ensures)) (record { answer = refl; short = omega arith })
     (ap (reopened v) e ∙ reopened_same v s.a s.ids.now _ _ (lent r ∙ sym (length-replicate _ 0))))
-    (λ c. search needs) returns-3)
+    (λ c. search rules) returns-3)

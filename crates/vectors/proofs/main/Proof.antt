@@ -1,5 +1,5 @@
 -- `main` is safe and ends: it counts to 128.
-use Rattle.promises.proofs.Prelude.{◌-◌, ◌≤◌, needs}
+use Rattle.promises.proofs.Prelude.{◌-◌, ◌≤◌, rules}
 use Rattle.vectors.proofs.main.Statement.{statement}
 use Rattle.vectors.proofs.main.Tie as tie
 
@@ -12,5 +12,5 @@ decreases-loop b₀ b = 128 - b
 pub main_spec : {M : Type 1} → statement M
 main_spec =
     tie.close
-    (tie.spec invariant-loop decreases-loop (λ c κs. search needs) (λ c κs. search needs) (λ c κs. search needs) (λ c. search needs) (λ c κs. search needs)
-    (λ c. search needs) (λ c. search needs) (λ c. search needs) (λ c. search needs))
+    (tie.spec invariant-loop decreases-loop (λ c κs. search rules) (λ c κs. search rules) (λ c κs. search rules) (λ c. search rules) (λ c κs. search rules)
+    (λ c. search rules) (λ c. search rules) (λ c. search rules) (λ c. search rules))

@@ -1,5 +1,5 @@
 -- `print_edges` is safe and ends: it counts to 144, so quotient and remainder by 12 stay below 12.
-use Rattle.promises.proofs.Prelude.{◌-◌, ◌≤◌, needs}
+use Rattle.promises.proofs.Prelude.{◌-◌, ◌≤◌, rules}
 use Rattle.vectors.proofs.print_edges.Statement.{statement}
 use Rattle.vectors.proofs.print_edges.Tie as tie
 
@@ -12,5 +12,5 @@ decreases-loop i₀ i = 144 - i
 pub print_edges_spec : {M : Type 1} → statement M
 print_edges_spec =
     tie.close
-    (tie.spec invariant-loop decreases-loop (λ c. search needs) (λ c. search needs) (λ c. search needs) (λ c. search needs) (λ c. search needs) (λ c κs. search needs)
-    (λ c κs. search needs) (λ c. search needs) (λ c. search needs) (λ c. search needs) (λ c. search needs))
+    (tie.spec invariant-loop decreases-loop (λ c. search rules) (λ c. search rules) (λ c. search rules) (λ c. search rules) (λ c. search rules) (λ c κs. search rules)
+    (λ c κs. search rules) (λ c. search rules) (λ c. search rules) (λ c. search rules) (λ c. search rules))

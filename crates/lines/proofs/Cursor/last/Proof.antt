@@ -1,5 +1,5 @@
 -- `Cursor::last` meets its contract: it reads a number, and looks whether the line goes on.
-use Rattle.promises.proofs.Prelude.{◌≡◌, sym, drop, drop_of_length-le, needs}
+use Rattle.promises.proofs.Prelude.{◌≡◌, sym, drop, drop_of_length-le, rules}
 use Rattle.decimals.specs.Decimal.{got}
 use Rattle.decimals.proofs.Digits.{byte}
 use Rattle.lines.specs.Lines.{next}
@@ -16,15 +16,15 @@ first c = rw c.v.given.1 at c.before.before.next.ensures
 returns-3 : tie.Need-returns-3
 returns-3 c =
     let v = c.before.before.before in
-    let h = drop_of_length-le v.before.before.before.before.args.s.now {i = v.v.given.0.1.0.at} (search needs) in
-    record { is = rw (← first v, h); most = (next_got _ _ (search needs) (sym (first v))).most }
+    let h = drop_of_length-le v.before.before.before.before.args.s.now {i = v.v.given.0.1.0.at} (search rules) in
+    record { is = rw (← first v, h); most = (next_got _ _ (search rules) (sym (first v))).most }
 
 pub last_spec : {M : Type 1} → statement M
 last_spec =
     tie.close
-    (tie.spec (search needs) (search needs) (search needs)
-    (λ c. record { is = rw (← c.before.before.next.ensures, c.enum_told.given.1); most = search needs })
+    (tie.spec (search rules) (search rules) (search rules)
+    (λ c. record { is = rw (← c.before.before.next.ensures, c.enum_told.given.1); most = search rules })
     (λ c.
     let v = c.before.before.before in
-    let h = byte v.before.before.before.before.args.s.now v.v.given.0.1.0.at (search needs) in
-    record { is = rw (← first v, h); most = search needs }) returns-3)
+    let h = byte v.before.before.before.before.args.s.now v.v.given.0.1.0.at (search rules) in
+    record { is = rw (← first v, h); most = search rules }) returns-3)
