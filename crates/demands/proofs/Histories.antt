@@ -20,7 +20,7 @@ use Rattle.demands.specs.Histories.{struck, strike, last_given, Answers, read, r
 use Rattle.demands.proofs.Stack.{Stack, empty, top, push, pop, top_seat, emptied, Makes, nothing, next, makes_append, stack_makes, makes_same, makes_allowed}
 
 -- every word but the ids
-ends : {O B : Bare} {T : Table} {h over unanswered : List Change} → Accepted T h → Passes T → Makes O over B → Stack B unanswered T.bare
+ends : {O : Bare} {T : Table} {B : Bare} {h over unanswered : List Change} → Accepted T h → Passes T → Makes O over B → Stack B unanswered T.bare
     → Makes O (struck over unanswered h) (run T h).bare
 ends done p m k = makes_append m (stack_makes k)
 ends (then {c = taking id b} s ok) p m k = ends ok (changed_passes (taking id b) p s) m (push k p s)
@@ -30,7 +30,7 @@ ends {O} {T = T} {unanswered = []} (then {c = seating id b} s ok) p m k =
     ends ok (changed_passes (seating id b) p s) (makes_append m' (next (room p s, s.is_last) nothing)) empty
 
 -- the latest removal not answered so far is the last seat out
-answered : {B : Bare} {T : Table} {h unanswered : List Change} → Accepted T h → Passes T → Stack B unanswered T.bare → Answers unanswered h
+answered : {T : Table} {B : Bare} {h unanswered : List Change} → Accepted T h → Passes T → Stack B unanswered T.bare → Answers unanswered h
 answered done p k = read
 answered (then {c = taking id b} s ok) p k = removal (answered ok (changed_passes (taking id b) p s) (push k p s))
 answered (then {c = seating id b} {h = h} s ok) p (top {id = old} {removals = removals} k g v e) =

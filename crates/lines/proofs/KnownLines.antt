@@ -5,6 +5,7 @@ use mathlib.Core.Logic.{⊎_elim}
 use Rattle.promises.proofs.Decided.{true_or_false, bool_cases}
 use Rattle.rules.specs.Table.{◌!◌}
 use Rattle.decimals.specs.Decimal.{decimal, Read, got, bad}
+use Rattle.decimals.specs.Opposites.{Parted}
 use Rattle.decimals.proofs.Opposites.{decimal_some, read_cases, theorem as opposites}
 use Rattle.lines.specs.Lines.{space, next, last, given, most_id, ids_of, ids_in, with_a, starts, open_word, seat_word, out_word, find_word, Command, open_line}
 use Rattle.lines.specs.Lines.{seat_line, out_line, find_line, unknown, command_of, spaced}
@@ -18,11 +19,16 @@ unfolding spaced
 spaced_length [] = omega arith
 spaced_length (v ∷ vs) = omega (arith, length-append (decimal v) (spaced vs), spaced_length vs)
 
+spaced_parted : (vs : List ℕ) → Parted space (spaced vs)
+unfolding spaced
+spaced_parted [] = tt
+spaced_parted (v ∷ vs) = refl
+
 next_spaced : (limit v : ℕ) (vs : List ℕ) → limit ≤ 2 ^ 64 → v < limit → next (limit - 1) (spaced (v ∷ vs)) ≡ got v (spaced vs)
 unfolding next spaced
 next_spaced limit v vs most h =
     (opposites space (limit - 1) v (decimal v ++ spaced vs) (spaced vs) refl (omega arith)).0
-    (record { most = omega arith; text = refl; parted = elim vs [ [] ↦ tt | v ∷ vs ↦ refl ] })
+    (record { most = omega arith; text = refl; parted = spaced_parted vs })
 
 ids_of_spaced : (most : ℕ) (ids : List ℕ) → length ids < most → ((i : ℕ) → ids ! i < 2 ^ 32) → ids_of most (spaced ids) ≡ record { ids = ids; whole = true }
 unfolding ids_of spaced

@@ -6,9 +6,9 @@ use lib.Seq.{drop-set-lt, take-suc-set, append_snoc}
 use Rattle.decimals.specs.Decimal.{Read, got, bad}
 use Rattle.decimals.proofs.Digits.{byte}
 use Rattle.decimals.proofs.Opposites.{read_cases}
-use Rattle.lines.specs.Lines.{next, most_id, no_ids, before, ids_of, ids_in, ids_behind, with_a}
+use Rattle.lines.specs.Lines.{next, most_id, no_ids, before, ids_of, ids_in, ids_behind, with_a, open_line, unknown}
 use Rattle.lines.specs.declared.Line.TheVariants.{Open, Unknown}
-use Rattle.lines.specs.Readings.{IsLine}
+use Rattle.lines.specs.Readings.{IsLine, line_from}
 use Rattle.lines.proofs.Words.{next_got}
 
 -- any number above the bytes' number does
@@ -64,7 +64,7 @@ module _ {s into₀ : List ℕ} {from : ℕ} {into : List ℕ} {at n : ℕ} (l :
         let w : (ids_in (drop from s)).whole ≡ whole = cc in
         let long = length-take-le n into (omega arith) in
         rw (← first, all, w)
-        (record { line = elim whole [ true ↦ rw long | false ↦ refl ]; stand = rw (long, ← l.kept) (sym (take-append-drop n into)) })
+        (record { line = elim whole as (λ w. cond w (Open a n) Unknown ≡ line_from (cond w (open_line a (take n into)) unknown)) [ true ↦ rw long | false ↦ refl ]; stand = rw (long, ← l.kept) (sym (take-append-drop n into)) })
 
     pub listing_ends : length s ≤ at → IsLine (with_a x, (ids_behind x).ids) into₀ (Open a n, into)
     unfolding ids_of

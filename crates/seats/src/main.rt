@@ -1,13 +1,30 @@
 // Standard input to standard output. One byte more than an input may have is read, so that a longer one is seen.
 #![tactic(auto)]
 
-use libc::{STDIN_FILENO, STDOUT_FILENO};
+ghost use Rattle.std.specs.Io.{ReadsAtMost};
+
+use std::io::{self, Read, Write};
 use transcript::{MOST_INPUT, MOST_OUTPUT};
 
-fn main() {
+// What the reader has, until the bytes are full or it ends; how many bytes that is.
+fn read_full<R: Read>(reader: &mut R, bytes: &mut [u8]) -> io::Result<usize>
+    ensures { ReadsAtMost result bytes.new }
+{
+    let mut done = 0;
+    while done < bytes.len() {
+        let n = reader.read(&mut bytes[done..])?;
+        if n == 0 {
+            break;
+        }
+        done += n;
+    }
+    Ok(done)
+}
+
+fn main(rt: HostRuntime) -> io::Result<()> {
     let mut input = [0u8; MOST_INPUT + 1];
-    let n = io::read_full(STDIN_FILENO, &mut input);
+    let n = read_full(&mut rt.reader(), &mut input)?;
     let mut out = [0u8; MOST_OUTPUT];
     let len = transcript::run(&input[..n], &mut out);
-    io::write_all(STDOUT_FILENO, &out[..len]);
+    io::writer(&rt).write_all(&out[..len])
 }

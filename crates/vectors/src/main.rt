@@ -2,8 +2,8 @@
 // program prints the same text from the same rule, and `stdout` is that program's.
 #![tactic(auto)]
 
-use libc::STDOUT_FILENO;
 use splitmix::{draw, product};
+use std::io;
 use std::num::wrapping_add_u64;
 
 // 0, 1, 2^32 - 1, 2^32, 2^63 and 2^64 - 1, with their neighbours.
@@ -22,29 +22,26 @@ const EDGES: [u64; 12] = [
     0xffff_ffff_ffff_ffff,
 ];
 
-fn print_line(x: u64, y: u64, z: u64) {
-    io::print_decimal(STDOUT_FILENO, x);
-    io::write_all(STDOUT_FILENO, b" ");
-    io::print_decimal(STDOUT_FILENO, y);
-    io::write_all(STDOUT_FILENO, b" ");
-    io::print_decimal(STDOUT_FILENO, z);
-    io::write_all(STDOUT_FILENO, b"\n");
+fn print_line<R: Print>(rt: &R, x: u64, y: u64, z: u64) -> io::Result<()> {
+    println!(rt; "{x} {y} {z}")
 }
 
 // Outputs 1 to 5 of the generator started at k: k, n, the output.
-fn print_first(k: u64) {
+fn print_first<R: Print>(rt: &R, k: u64) -> io::Result<()> {
     for n in 1..6 {
-        print_line(k, n, draw(n, k));
+        print_line(rt, k, n, draw(n, k))?;
     }
+    Ok(())
 }
 
 // The output at each pair of edges: k, n, the output.
-fn print_edges() {
+fn print_edges<R: Print>(rt: &R) -> io::Result<()> {
     for i in 0usize..144 {
         let k = EDGES[i / 12];
         let n = EDGES[i % 12];
-        print_line(k, n, draw(n, k));
+        print_line(rt, k, n, draw(n, k))?;
     }
+    Ok(())
 }
 
 // The next number of Knuth's MMIX generator, which makes the pairs of a block.
@@ -54,7 +51,7 @@ fn next(x: u64) -> u64 {
 
 // Block b has 1,024 pairs, from the numbers that follow b in turn: k is one of them, and n the one after it divided by
 // 2^(b mod 64), so that n comes in every length. Printed are b, the sum of the outputs modulo 2^64, and their xor.
-fn print_block(b: u64) {
+fn print_block<R: Print>(rt: &R, b: u64) -> io::Result<()> {
     let mut x = b;
     let mut sum: u64 = 0;
     let mut xor: u64 = 0;
@@ -65,14 +62,15 @@ fn print_block(b: u64) {
         sum = wrapping_add_u64(sum, z);
         xor = xor ^ z;
     }
-    print_line(b, sum, xor);
+    print_line(rt, b, sum, xor)
 }
 
-fn main() {
-    print_first(1234567);
-    print_first(0);
-    print_edges();
+fn main(rt: HostRuntime) -> io::Result<()> {
+    print_first(&rt, 1234567)?;
+    print_first(&rt, 0)?;
+    print_edges(&rt)?;
     for b in 0..128 {
-        print_block(b);
+        print_block(&rt, b)?;
     }
+    Ok(())
 }

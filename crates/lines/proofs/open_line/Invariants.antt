@@ -1,0 +1,13 @@
+-- `lines::open_line` meets its contract. The loop's invariant: the ids read so far, before those of the rest, are all ids.
+use Rattle.promises.proofs.Prelude.{◌≡◌, refl, sym, ◌-◌, arith, length, drop, length-drop, rules}
+use Rattle.decimals.specs.Decimal.{got}
+use Rattle.lines.specs.Lines.{next, most_id}
+use Rattle.lines.proofs.Words.{next_got}
+use Rattle.lines.proofs.Listing.{Listing, listing_room, listing_more, listing_ends, listing_breaks}
+use Rattle.lines.proofs.open_line.Given as goal
+
+abbrev pub invariant-loop-at : goal.invariant-loop-at
+invariant-loop-at l = Listing l.s l.initial.into l.initial.at l.into l.at l.n
+
+abbrev pub decreases-loop-at : goal.decreases-loop-at
+decreases-loop-at l = length l.s - l.at

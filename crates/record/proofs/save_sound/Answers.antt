@@ -1,0 +1,56 @@
+-- `record::save_sound` meets its contract: each way out is one of `Saves`.
+use Rattle.promises.proofs.Prelude.{◌-◌, ◌≤◌, arith, length, rules}
+use Rattle.rules.specs.Table.{◌!◌, table_of}
+use Rattle.fields.specs.Form.{out_at, in_at}
+use Rattle.fields.proofs.Places.{out_first, in_first, out_small, in_small}
+use Rattle.sound.proofs.Sound.{sound_legal}
+use Rattle.saved.proofs.Holds.{seats_all}
+use Rattle.record.proofs.Saves.{long, good, save_room, save_done}
+use Rattle.record.proofs.save_sound.Goals as goal
+use Rattle.record.proofs.save_sound.Goals.{Else-out-len}
+
+-- its head, its removals and all of it have room
+room : (e : Else-out-len)
+    → let s = e.args in
+    let m = s.t.now ! 0 - s.t.now ! 1 in
+    (out_at s.f 0 ≤ length s.out.now) × (out_at s.f m ≤ length s.out.now) × (in_at s.f m (s.t.now ! 1) ≤ length s.out.now)
+room e =
+    let s = e.args in
+    let m = s.t.now ! 0 - s.t.now ! 1 in
+    let fits = rw (e.in_at-len.ensures, e.get_seats-a.ensures, e.get_n-n.ensures) at e.if-out-len.false in
+    omega (arith, in_first s.f m (s.t.now ! 1), out_first s.f m)
+
+pub overflow_sub-m : goal.overflow_sub-m
+overflow_sub-m c = let p = c.requires in omega (arith, (good p.0 p.1).test.shape.most)
+
+pub in_at-len-requires : goal.in_at-len-requires
+in_at-len-requires c =
+    omega (arith, (sound_legal c.requires.0).shape, in_small c.args.f (c.get_seats-a.result - c.get_n-n.result) c.get_n-n.result)
+
+pub returns-then-out-len : goal.returns-then-out-len
+returns-then-out-len c =
+    save_room c.requires.0 c.requires.1 _ (rw (c.in_at-len.ensures, c.get_seats-a.ensures, c.get_n-n.ensures) at c.if-out-len.true)
+
+pub put_head-requires : goal.put_head-requires
+put_head-requires c = (room (goal.at.put_head-requires c).Else-out-len).0
+
+pub put_outs-requires : goal.put_outs-requires
+put_outs-requires c =
+    rw (c.get_seats-a.ensures, c.get_n-n.ensures) ((sound_legal c.requires.0).shape, omega arith, omega (arith, room (goal.at.put_outs-requires c).Else-out-len))
+
+pub out_at-requires : goal.out_at-requires
+out_at-requires c =
+    omega (arith, (sound_legal c.requires.0).shape, c.get_seats-a.ensures, out_small c.args.f (c.get_seats-a.result - c.get_n-n.result))
+
+pub put_ins-requires : goal.put_ins-requires
+put_ins-requires c =
+    rw (c.out_at.ensures, c.get_seats-a.ensures, c.get_n-n.ensures)
+    ((sound_legal c.requires.0).shape, omega (arith, seats_all c.args.f (table_of c.args.t.now) (good c.requires.0 c.requires.1), room (goal.at.put_ins-requires c).Else-out-len))
+
+pub returns : goal.returns
+returns c =
+    rw (c.in_at-len.ensures, c.get_seats-a.ensures, c.get_n-n.ensures)
+    (save_done c.requires.0 c.requires.1 c.args.out.now (room (goal.at.returns c).Else-out-len).2
+    (rw (c.get_seats-a.ensures, c.get_n-n.ensures) at c.put_head.ensures)
+    (rw (c.get_seats-a.ensures, c.get_n-n.ensures) at c.put_outs.ensures)
+    (rw (c.out_at.ensures, c.get_seats-a.ensures, c.get_n-n.ensures) at c.put_ins.ensures))
