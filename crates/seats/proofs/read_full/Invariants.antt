@@ -1,0 +1,9 @@
+-- What is read so far is within the bytes, and each read leaves fewer.
+use Rattle.std.proofs.Common.{◌-◌, ◌≤◌, length}
+use Rattle.seats.proofs.read_full.Given as goal
+
+abbrev pub invariant-loop-done : goal.invariant-loop-done
+invariant-loop-done g l = l.done ≤ length l.bytes
+
+abbrev pub decreases-loop-done : goal.decreases-loop-done
+decreases-loop-done g l = length l.bytes - l.done
