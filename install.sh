@@ -13,8 +13,8 @@ cd "$(dirname "$0")"
 to=${DESTDIR:-}$prefix
 
 if [ -z "${STEAMACORN_LIB:-}" ]; then
-    rt staticlib steamacorn
-    STEAMACORN_LIB=target/staticlib
+    (cd crates/steamacorn && rt lib)
+    STEAMACORN_LIB=crates/steamacorn/out
 fi
 install -D -m 644 include/steamacorn.h "$to/include/steamacorn.h"
 install -D -m 644 "$STEAMACORN_LIB/libsteamacorn.a" "$to/lib/libsteamacorn.a"
@@ -32,7 +32,7 @@ Cflags: -I\${includedir}
 Libs: -L\${libdir} -lsteamacorn
 PC
 if grep -q '^seats:' crates.txt; then
-    rt check seats
-    install -D -m 755 target/bin/seats "$to/bin/seats"
+    (cd crates/seats && rt run </dev/null >/dev/null)
+    install -D -m 755 crates/seats/out/seats "$to/bin/seats"
     install -D -m 644 man/seats.1 "$to/share/man/man1/seats.1"
 fi

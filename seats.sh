@@ -42,10 +42,11 @@ To read on: man -l man/seats.1, and for C man -l man/steamacorn.3
 HELP
 }
 
-# prove LOG: a line for each crate as rt proves it; one that rt finds unchanged is only counted. LOG gets all that rt says.
+# prove LOG: a line for each crate as rt proves it; one that rt finds unchanged is only counted. LOG gets all that rt says. What rt runs
+# at the end reads nothing and writes nothing.
 prove() {
-    local crates proved=0 line
-    crates=$(awk -F ':' '/^[a-z]/ { needs[$1] = $2 }
+    local crates proved=0 name='' line
+    crates=$(awk -F ':' '/^[a-z]/ { sub(/ .*/, "", $1); needs[$1] = $2 }
         function counted(name, on, i, sum) {
             if (!(name in needs) || name in seen) return 0
             seen[name] = sum = 1
@@ -54,10 +55,15 @@ prove() {
         }
         END { print counted("seats") }' crates.txt)
     echo "seats.sh: proving what is not proved yet of $crates crates, and building: some minutes the first time" >&2
-    rt check seats 2>&1 </dev/null | tee "$1" | while IFS= read -r line; do
-        [[ $line =~ ^rt:\ ([a-z0-9_]+)\ proved\ \((.*)\)$ ]] || continue
-        proved=$((proved + 1))
-        [[ ${BASH_REMATCH[2]} == unchanged* ]] || echo "seats.sh: ${BASH_REMATCH[1]} proved ($proved of $crates)" >&2
+    (cd crates/seats && rt run) 2>&1 </dev/null | tee "$1" | while IFS= read -r line; do
+        if [[ $line =~ ^crate\ ([a-z0-9_]+):\ modules\ .*\ checked=([0-9]+)$ ]]; then
+            name=${BASH_REMATCH[1]}
+            proved=$((proved + 1))
+            [ "${BASH_REMATCH[2]}" != 0 ] || name=
+        elif [[ $line == logic=proved* && -n $name ]]; then
+            echo "seats.sh: $name proved ($proved of $crates)" >&2
+            name=
+        fi
     done
 }
 
@@ -67,16 +73,16 @@ case ${1-} in
 *) echo "seats.sh: it takes no '$1': see ./seats.sh --help" >&2; exit 2 ;;
 esac
 
-program=target/bin/seats
-if [ ! -f "$program" ] || [ -n "$(find crates crates.txt -type f -newer "$program" -print -quit)" ]; then
+program=crates/seats/out/seats
+if [ ! -f "$program" ] || [ -n "$(find crates crates.txt -name out -prune -o -type f -newer "$program" -print -quit)" ]; then
     begun=$(mktemp) said=$(mktemp)
     trap 'rm -f "$begun" "$said"' EXIT
     prove "$said" || { cat "$said" >&2; exit 1; }
-    [ -f "$program" ] || { echo "seats.sh: all is proved, and $program is gone: remove target/ and try again" >&2; exit 1; }
+    [ -f "$program" ] || { echo "seats.sh: all is proved, and $program is gone: remove crates/seats/out and try again" >&2; exit 1; }
     touch -r "$begun" "$program" # rt leaves it as it is where no crate says anything new; what was saved meanwhile is newer
     rm "$begun" "$said"
 fi
-kit=$(dirname "$(dirname "$(rt doc)")")
+kit=$(dirname "$(rt doc)")
 emulator=$kit/on/$(uname -m)/toolchain/bin/qemu-x86_64
 [ -x "$emulator" ] || emulator=
 exec ${emulator:+"$emulator"} "$kit/toolchain/lib/ld-linux-x86-64.so.2" --library-path "$kit/toolchain/lib" "$program"

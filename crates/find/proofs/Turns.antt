@@ -1,5 +1,5 @@
 -- The walk that is left, with so many turns: K may be followed once less at each.
-use Rattle.promises.proofs.Prelude.{◌≡◌, refl, List, ℕ, ◌+◌, ◌-◌, ◌≤◌, ◌<◌, zero, suc, arith, length, rules}
+use Rattle.promises.proofs.Prelude.{◌≡◌, refl, List, ℕ, ◌+◌, ◌-◌, ◌≤◌, ◌<◌, zero, suc, arith, length}
 use Rattle.rules.specs.Table.{◌!◌}
 use Rattle.rules.specs.Keys.{Walk, at, lost, walk}
 use Rattle.rules.proofs.Walks.{walk_stops, walk_goes, walk_past, walk_spent}

@@ -1,5 +1,5 @@
 -- A part that is filled word by word.
-use Rattle.promises.proofs.Prelude.{◌≡◌, ◌∙◌, List, ℕ, ◌-◌, ◌≤◌, ◌<◌, ◌+◌, arith, ℕ_discrete, length, set, length-set, get_or-set_same, get_or-set_other}
+use Rattle.promises.proofs.Prelude.{◌≡◌, ◌∙◌, List, ℕ, ◌≤◌, ◌<◌, ◌+◌, arith, ℕ_discrete, length, set, length-set, get_or-set_same, get_or-set_other}
 use lib.Seq.{ext_get_or}
 use Rattle.rules.specs.Table.{◌!◌}
 

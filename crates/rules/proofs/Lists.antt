@@ -1,5 +1,5 @@
 -- Laws of lists of words that the library lacks.
-use Rattle.promises.proofs.Prelude.{◌≡◌, refl, ◌∙◌, sym, ap, ◌≢◌, List, [], ◌∷◌, ◌++◌, ℕ, ◌-◌, ◌<◌, ◌+◌, suc, zero, add-zero, arith, ℕ_discrete, dec_lt, length}
+use Rattle.promises.proofs.Prelude.{◌≡◌, refl, ◌∙◌, sym, ap, ◌≢◌, List, [], ◌∷◌, ◌++◌, ℕ, ◌<◌, ◌+◌, suc, zero, add-zero, arith, ℕ_discrete, dec_lt, length}
 use Rattle.promises.proofs.Prelude.{set, replicate, get_or-set_other, sets}
 use lib.Seq.{set-get_or, set-set}
 use Rattle.rules.specs.Table.{◌!◌}

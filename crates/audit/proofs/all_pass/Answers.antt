@@ -1,9 +1,7 @@
 -- `audit::all_pass` meets its contract. The loop's invariant: what is below i is decided.
-use Rattle.promises.proofs.Prelude.{◌≡◌, ◌-◌, ◌≤◌, arith, rules}
-use Rattle.rules.specs.Table.{table_for}
-use Rattle.promises.specs.Decides.{Decides}
+use Rattle.promises.proofs.Prelude.{rules}
 use Rattle.promises.proofs.Decided.{decides_more}
-use Rattle.audit.specs.Pass.{IndexPasses, AllPass}
+use Rattle.audit.specs.Pass.{IndexPasses}
 use Rattle.audit.proofs.all_pass.Goals as goal
 
 pub loop-i-preserved : goal.loop-i-preserved

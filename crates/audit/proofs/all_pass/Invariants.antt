@@ -1,9 +1,8 @@
 -- `audit::all_pass` meets its contract. The loop's invariant: what is below i is decided.
-use Rattle.promises.proofs.Prelude.{◌≡◌, ◌-◌, ◌≤◌, arith, rules}
+use Rattle.promises.proofs.Prelude.{◌-◌, ◌≤◌}
 use Rattle.rules.specs.Table.{table_for}
 use Rattle.promises.specs.Decides.{Decides}
-use Rattle.promises.proofs.Decided.{decides_more}
-use Rattle.audit.specs.Pass.{IndexPasses, AllPass}
+use Rattle.audit.specs.Pass.{AllPass}
 use Rattle.audit.proofs.all_pass.Given as goal
 
 abbrev pub invariant-loop-i : goal.invariant-loop-i

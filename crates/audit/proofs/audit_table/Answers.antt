@@ -1,5 +1,5 @@
 -- `audit::audit_table` meets its contract: it makes the pass of `Exact`, which a run of legal shape passes if and only if it is sound.
-use Rattle.promises.proofs.Prelude.{◌≡◌, ◌∙◌, sym, ap, arith, rules, not-false}
+use Rattle.promises.proofs.Prelude.{◌≡◌, ◌∙◌, sym, ap, arith, not-false}
 use borrow.Author.Tests.{not-true}
 use Rattle.rules.specs.Ids.{repeats}
 use Rattle.parts.specs.Shape.{size_of}

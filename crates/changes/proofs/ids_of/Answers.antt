@@ -1,7 +1,5 @@
 -- `changes::ids_of` meets its contract: the part S of as many seats as word 0 says.
-use Rattle.promises.proofs.Prelude.{arith, rules}
 use Rattle.sound.proofs.Sound.{sound_legal}
-use Rattle.changes.proofs.Ready.{long}
 use Rattle.changes.proofs.ids_of.Goals as goal
 
 pub servers-requires : goal.servers-requires

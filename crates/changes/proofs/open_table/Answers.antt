@@ -1,5 +1,5 @@
 -- `changes::open_table` meets its contract: each way out is the first refusal that applies, or there is none.
-use Rattle.promises.proofs.Prelude.{◌≡◌, ◌∙◌, sym, ap, not, List, [], ◌∷◌, ℕ, length, rules, ne_eqb, eq-eqb, le-ltb, lt-ltb}
+use Rattle.promises.proofs.Prelude.{◌≡◌, ◌∙◌, sym, ap, not, List, [], ◌∷◌, ℕ, length, ne_eqb, eq-eqb, le-ltb, lt-ltb}
 use Rattle.rules.specs.Table.{run_length, most_seats}
 use Rattle.rules.specs.Answers.{refused_at, done, none, more}
 use Rattle.rules.specs.History.{list_refusals}

@@ -1,12 +1,12 @@
 -- `changes::out_sound` meets its contract: each way out is the first refusal that applies, or there is none.
-use Rattle.promises.proofs.Prelude.{◌≡◌, ◌∙◌, sym, ap, ◌≢◌, true, false, not, List, [], ◌∷◌, ℕ, arith, eqb, rules, ne_eqb, eq-eqb}
+use Rattle.promises.proofs.Prelude.{◌≡◌, ◌∙◌, sym, ap, ◌≢◌, true, false, not, List, [], ◌∷◌, ℕ, arith, eqb, ne_eqb, eq-eqb}
 use Rattle.rules.specs.Table.{◌!◌, words, table_of}
 use Rattle.rules.specs.Changes.{take_out}
 use Rattle.rules.specs.Ids.{occurs}
 use Rattle.rules.specs.Answers.{done, none, more}
 use Rattle.rules.proofs.Occasions.{here, later}
 use Rattle.sound.proofs.Sound.{sound_legal}
-use Rattle.changes.proofs.Ready.{long, tested, leaving}
+use Rattle.changes.proofs.Ready.{tested, leaving}
 use Rattle.changes.proofs.Told.{out_first, out_done}
 use Rattle.changes.proofs.out_sound.Goals as goal
 use Rattle.changes.proofs.out_sound.Goals.{After-is_seated, Else-get_n-eq1, Then-is_seated}

@@ -1,5 +1,5 @@
 -- `changes::seat_of` meets its contract: the id stands in the part S, which has a words.
-use Rattle.promises.proofs.Prelude.{◌≡◌, ◌∙◌, ap, arith, rules}
+use Rattle.promises.proofs.Prelude.{◌≡◌, ◌∙◌, ap, arith}
 use Rattle.rules.specs.Table.{table_of}
 use Rattle.rules.specs.Ids.{place_of}
 use Rattle.sound.proofs.Sound.{sound_legal}

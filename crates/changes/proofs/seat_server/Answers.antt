@@ -1,5 +1,4 @@
 -- `changes::seat_server` meets its contract: it refuses as the audit does, or the table is sound.
-use Rattle.promises.proofs.Prelude.{rules}
 use Rattle.audit.proofs.Told.{fine_sound}
 use Rattle.changes.proofs.Told.{seat_refused}
 use Rattle.changes.proofs.seat_server.Goals as goal

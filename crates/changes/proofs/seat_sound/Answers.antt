@@ -1,11 +1,11 @@
 -- `changes::seat_sound` meets its contract: each way out is the first refusal that applies, or there is none.
-use Rattle.promises.proofs.Prelude.{◌≡◌, ◌∙◌, sym, ap₂, ◌≢◌, false, List, [], ◌∷◌, ℕ, arith, eqb, rules, ne_eqb, eq-eqb}
+use Rattle.promises.proofs.Prelude.{◌≡◌, ◌∙◌, sym, ap₂, ◌≢◌, false, List, [], ◌∷◌, ℕ, arith, eqb, ne_eqb, eq-eqb}
 use Rattle.rules.specs.Table.{◌!◌, table_of}
 use Rattle.rules.specs.Ids.{occurs}
 use Rattle.rules.specs.Answers.{done, none, more}
 use Rattle.rules.proofs.Occasions.{here, later}
 use Rattle.sound.proofs.Sound.{sound_legal}
-use Rattle.changes.proofs.Ready.{long, tested, roomy}
+use Rattle.changes.proofs.Ready.{tested, roomy}
 use Rattle.changes.proofs.Told.{seat_first, seat_done}
 use Rattle.changes.proofs.seat_sound.Goals as goal
 use Rattle.changes.proofs.seat_sound.Goals.{After-is_seated, Else-get_n-a, Else-is_seated}

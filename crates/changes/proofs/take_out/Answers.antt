@@ -1,5 +1,4 @@
 -- `changes::take_out` meets its contract: it refuses as the audit does, or the table is sound.
-use Rattle.promises.proofs.Prelude.{rules}
 use Rattle.audit.proofs.Told.{fine_sound}
 use Rattle.changes.proofs.Told.{out_refused}
 use Rattle.changes.proofs.take_out.Goals as goal

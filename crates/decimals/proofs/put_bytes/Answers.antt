@@ -1,6 +1,5 @@
 -- `decimals::put_bytes` meets its contract. The loop's invariant: the first i bytes stand.
-use Rattle.promises.proofs.Prelude.{◌≡◌, refl, ◌-◌, ◌≤◌, length, length-set, take, sets, rules}
-use lib.Seq.{take_all}
+use Rattle.promises.proofs.Prelude.{length-set, rules}
 use Rattle.decimals.proofs.Stored.{sets_more}
 use Rattle.decimals.proofs.put_bytes.Goals as goal
 

@@ -1,8 +1,5 @@
 -- `decimals::read_decimal` meets its contract. The loop's invariant: the digits from i on, behind those of v, are all of the number.
-use Rattle.promises.proofs.Prelude.{◌∙◌, sym, ◌-◌, ◌≤◌, arith, length, rules, not-false}
-use Rattle.rules.specs.Table.{◌!◌}
-use Rattle.decimals.specs.Decimal.{more}
-use Rattle.decimals.proofs.Digits.{digit_true, follows_true, Reading}
+use Rattle.promises.proofs.Prelude.{rules}
 use Rattle.decimals.proofs.Digits.{number_end, number_bad, number_first, digits_end, digits_stop, digits_bad, digits_more}
 use Rattle.decimals.proofs.read_decimal.Goals as goal
 

@@ -1,9 +1,6 @@
 -- `decimals::read_decimal` meets its contract. The loop's invariant: the digits from i on, behind those of v, are all of the number.
-use Rattle.promises.proofs.Prelude.{◌∙◌, sym, ◌-◌, ◌≤◌, arith, length, rules, not-false}
-use Rattle.rules.specs.Table.{◌!◌}
-use Rattle.decimals.specs.Decimal.{more}
-use Rattle.decimals.proofs.Digits.{digit_true, follows_true, Reading}
-use Rattle.decimals.proofs.Digits.{number_end, number_bad, number_first, digits_end, digits_stop, digits_bad, digits_more}
+use Rattle.promises.proofs.Prelude.{◌-◌, length}
+use Rattle.decimals.proofs.Digits.{Reading}
 use Rattle.decimals.proofs.read_decimal.Given as goal
 
 abbrev pub invariant-loop-i : goal.invariant-loop-i

@@ -1,6 +1,6 @@
 -- `fields::in_at` meets its contract: the place is the lengths before it.
 use Rattle.promises.proofs.Prelude.{ℕ, ◌+◌, ◌*◌, ap, arith}
-use Rattle.fields.proofs.Places.{field_most, in_is}
+use Rattle.fields.proofs.Places.{in_is}
 use Rattle.fields.proofs.in_at.Goals as goal
 
 pub out_at-requires : goal.out_at-requires

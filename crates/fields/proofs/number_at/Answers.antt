@@ -1,7 +1,6 @@
 -- `fields::number_at` meets its contract. The loop's invariant: x is the number that stands in the first i bytes.
-use Rattle.promises.proofs.Prelude.{◌≡◌, refl, ◌-◌, ◌≤◌, ◌<◌, ◌+◌, ◌^◌, add-one, arith, rules}
+use Rattle.promises.proofs.Prelude.{◌<◌, ◌+◌, ◌^◌, arith}
 use native.Mathlib.Nat.{pow-le-pow_right}
-use Rattle.fields.specs.Numbers.{number_at}
 use Rattle.fields.proofs.Numbers.{number_below}
 use Rattle.fields.proofs.number_at.Goals as goal
 use Rattle.fields.proofs.number_at.Goals.{After-shared_slice_known-1}

@@ -1,8 +1,6 @@
 -- `fields::number_at` meets its contract. The loop's invariant: x is the number that stands in the first i bytes.
-use Rattle.promises.proofs.Prelude.{◌≡◌, refl, ◌-◌, ◌≤◌, ◌<◌, ◌+◌, ◌^◌, add-one, arith, rules}
-use native.Mathlib.Nat.{pow-le-pow_right}
+use Rattle.promises.proofs.Prelude.{◌≡◌, ◌-◌, ◌≤◌}
 use Rattle.fields.specs.Numbers.{number_at}
-use Rattle.fields.proofs.Numbers.{number_below}
 use Rattle.fields.proofs.number_at.Given as goal
 
 abbrev pub invariant-loop-i : goal.invariant-loop-i

@@ -1,6 +1,6 @@
 -- `fields::out_at` meets its contract: the place is the lengths before it.
 use Rattle.promises.proofs.Prelude.{ℕ, ◌*◌, ap, arith}
-use Rattle.fields.proofs.Places.{field_most, out_is}
+use Rattle.fields.proofs.Places.{out_is}
 use Rattle.fields.proofs.out_at.Goals as goal
 
 pub overflow_mul-result : goal.overflow_mul-result

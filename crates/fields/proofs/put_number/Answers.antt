@@ -1,5 +1,5 @@
 -- `fields::put_number` meets its contract. The loop's invariant: the first i bytes of what is left are still to be stored.
-use Rattle.promises.proofs.Prelude.{◌≡◌, refl, ◌-◌, ◌≤◌, suc, ◌/◌, ◌%◌, arith, length, sets, rules}
+use Rattle.promises.proofs.Prelude.{◌≡◌, ◌-◌, suc, ◌/◌, ◌%◌, arith, rules}
 use Rattle.fields.specs.Numbers.{bytes}
 use Rattle.fields.proofs.Numbers.{length_bytes, sets_last}
 use Rattle.fields.proofs.put_number.Goals as goal

@@ -1,7 +1,6 @@
 -- `fields::put_number` meets its contract. The loop's invariant: the first i bytes of what is left are still to be stored.
-use Rattle.promises.proofs.Prelude.{◌≡◌, refl, ◌-◌, ◌≤◌, suc, ◌/◌, ◌%◌, arith, length, sets, rules}
+use Rattle.promises.proofs.Prelude.{◌≡◌, ◌≤◌, length, sets}
 use Rattle.fields.specs.Numbers.{bytes}
-use Rattle.fields.proofs.Numbers.{length_bytes, sets_last}
 use Rattle.fields.proofs.put_number.Given as goal
 
 abbrev pub invariant-loop-i : goal.invariant-loop-i

@@ -1,5 +1,5 @@
 -- `find::find_server` meets its contract: A and K are lent as the parts that the array rule reads, and its tests are those of `find` in their order.
-use Rattle.promises.proofs.Prelude.{◌≡◌, ◌∙◌, sym, true, arith, rules, ne_eqb}
+use Rattle.promises.proofs.Prelude.{◌≡◌, ◌∙◌, sym, true, arith, ne_eqb}
 use native.Mathlib.Nat.{mod-lt}
 use Rattle.splitmix.specs.Generator.{output}
 use Rattle.rules.specs.Table.{table_for, legal}

@@ -1,11 +1,9 @@
 -- `find::look_up` meets its contract and ends: a redraw leads to a seat with a smaller A, on any table. So fewer seats have a smaller
 -- A still, the draws are at most a, and 32 bits hold the walks.
-use Rattle.promises.proofs.Prelude.{◌≡◌, refl, ◌∙◌, sym, ap, ◌<◌, ◌+◌, ◌^◌, arith, rules}
+use Rattle.promises.proofs.Prelude.{◌≡◌}
 use Rattle.rules.specs.Table.{◌!◌}
-use Rattle.rules.specs.Keys.{at, pick_of, walk, redraw, lookup}
-use Rattle.find.specs.Steps.{walk_of}
-use Rattle.rules.proofs.Walks.{walk_end, lookup_here}
-use Rattle.find.proofs.Redraws.{lookup_lost, lookup_goes, SoFar, so_far_first, so_far_goes, so_far_bounded, bounded_fits}
+use Rattle.rules.specs.Keys.{pick_of, lookup}
+use Rattle.find.proofs.Redraws.{SoFar}
 use Rattle.find.proofs.look_up.Given as goal
 
 abbrev pub invariant-loop-b : goal.invariant-loop-b

@@ -1,9 +1,7 @@
 -- `form::all_new` meets its contract. The loop's invariant: all but the last two for each turn that is left are looked at.
-use Rattle.promises.proofs.Prelude.{◌≡◌, ◌-◌, ◌≤◌, ◌+◌, ◌*◌, arith, rules, below_more}
+use Rattle.promises.proofs.Prelude.{◌-◌, ◌≤◌, ◌*◌}
 use Rattle.promises.specs.Decides.{Decides}
-use Rattle.promises.proofs.Decided.{decides_both}
-use Rattle.fields.proofs.Places.{in_within}
-use Rattle.saved.specs.Fits.{New, AllNew}
+use Rattle.saved.specs.Fits.{AllNew}
 use Rattle.form.proofs.all_new.Given as goal
 
 abbrev pub invariant-loop-left : goal.invariant-loop-left

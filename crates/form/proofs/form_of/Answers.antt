@@ -1,5 +1,5 @@
 -- `form::form_of` meets its contract: there is one form.
-use Rattle.promises.proofs.Prelude.{arith, rules}
+use Rattle.promises.proofs.Prelude.{arith}
 use Rattle.fields.proofs.Places.{one}
 use Rattle.form.proofs.Told.{form_told}
 use Rattle.form.proofs.form_of.Goals as goal

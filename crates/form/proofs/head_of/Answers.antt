@@ -1,7 +1,6 @@
 -- `form::head_of` meets its contract: each way out has met, or missed, what `HeadFits` names.
-use Rattle.promises.proofs.Prelude.{◌≡◌, ◌∙◌, sym, ◌-◌, arith, rules}
-use Rattle.fields.proofs.Places.{head_two, field_most, out_first, in_first, in_small}
-use Rattle.saved.specs.Reader.{used_in}
+use Rattle.promises.proofs.Prelude.{◌-◌, arith}
+use Rattle.fields.proofs.Places.{in_small}
 use Rattle.form.proofs.head_of.Goals as goal
 
 pub in_at-requires : goal.in_at-requires

@@ -1,11 +1,7 @@
 -- `form::ins_fit` meets its contract. The loop's invariant: the records of the seats below b fit, and j of these are in use.
-use Rattle.promises.proofs.Prelude.{◌≡◌, refl, ℕ, ◌-◌, ◌≤◌, ◌+◌, add-one, arith, length, rules, below_more}
-use mathlib.Core.Logic.{⊎_elim}
-use Rattle.rules.specs.Table.{◌!◌}
+use Rattle.promises.proofs.Prelude.{◌≤◌, ◌+◌, arith, length}
 use Rattle.fields.specs.Form.{in_length, in_at}
-use Rattle.saved.specs.Reader.{rank}
-use Rattle.saved.specs.Fits.{InFits, AllIn}
-use Rattle.saved.proofs.Ranks.{rank_used, rank_out, rank_most, seat_within}
+use Rattle.saved.proofs.Ranks.{rank_most, seat_within}
 use Rattle.form.proofs.ins_fit.Goals as goal
 use Rattle.form.proofs.ins_fit.Goals.{Then-gone-b-eq0}
 

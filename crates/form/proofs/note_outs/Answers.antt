@@ -1,8 +1,5 @@
 -- `form::note_outs` meets its contract. The loop's invariant: the first i removals fit and are noted.
-use Rattle.promises.proofs.Prelude.{◌≡◌, refl, ◌-◌, ◌≤◌, arith, length, rules, below_more}
-use Rattle.saved.specs.Reader.{bare_from}
-use Rattle.saved.specs.Fits.{AllOut}
-use Rattle.form.specs.Tests.{Noted}
+use Rattle.promises.proofs.Prelude.{refl, arith, rules}
 use Rattle.form.proofs.Told.{noted_none}
 use Rattle.form.proofs.note_outs.Goals as goal
 

@@ -1,10 +1,6 @@
 -- `form::two_new` meets its contract. The loop's invariant: the first i are looked at.
-use Rattle.promises.proofs.Prelude.{◌≡◌, ◌≢◌, ◌&&◌, List, ℕ, ◌-◌, ◌≤◌, ◌<◌, ◌+◌, arith, length, rules, below_more}
+use Rattle.promises.proofs.Prelude.{◌≢◌, ℕ, ◌-◌, ◌≤◌, ◌<◌, ◌+◌}
 use Rattle.promises.specs.Decides.{Decides}
-use Rattle.promises.proofs.Decided.{decides_both, decides_more}
-use Rattle.fields.specs.declared.Form.{Form}
-use Rattle.fields.specs.Form.{in_length, in_at}
-use Rattle.fields.proofs.Places.{in_within, in_least}
 use Rattle.saved.specs.Reader.{server_at}
 use Rattle.form.proofs.two_new.Given as goal
 

@@ -1,6 +1,6 @@
 -- `ids::occurs_in` meets its contract. The loop's invariant: the first i of each half are looked at.
-use Rattle.promises.proofs.Prelude.{◌-◌, ◌≤◌, ◌+◌, ◌/◌, arith, length, rules}
-use Rattle.ids.proofs.Scans.{Looked, looked_more, looked_all}
+use Rattle.promises.proofs.Prelude.{◌/◌, arith, length, rules}
+use Rattle.ids.proofs.Scans.{looked_more, looked_all}
 use Rattle.ids.proofs.occurs_in.Goals as goal
 
 pub loop-i-preserved : goal.loop-i-preserved

@@ -1,6 +1,6 @@
 -- `ids::occurs_in` meets its contract. The loop's invariant: the first i of each half are looked at.
-use Rattle.promises.proofs.Prelude.{◌-◌, ◌≤◌, ◌+◌, ◌/◌, arith, length, rules}
-use Rattle.ids.proofs.Scans.{Looked, looked_more, looked_all}
+use Rattle.promises.proofs.Prelude.{◌-◌, ◌≤◌, ◌+◌, length}
+use Rattle.ids.proofs.Scans.{Looked}
 use Rattle.ids.proofs.occurs_in.Given as goal
 
 abbrev pub invariant-loop-i : goal.invariant-loop-i

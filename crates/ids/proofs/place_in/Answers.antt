@@ -1,6 +1,5 @@
 -- `ids::place_in` meets its contract. The loop's invariant: i, and the place in the rest, is the place in all.
-use Rattle.promises.proofs.Prelude.{◌≡◌, ◌∙◌, sym, ◌-◌, ◌≤◌, ◌+◌, zero-add, length, drop, rules}
-use Rattle.rules.specs.Ids.{place_of}
+use Rattle.promises.proofs.Prelude.{◌∙◌, sym, rules}
 use Rattle.ids.proofs.Scans.{place_here, place_next, place_end}
 use Rattle.ids.proofs.place_in.Goals as goal
 

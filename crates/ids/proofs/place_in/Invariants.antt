@@ -1,7 +1,6 @@
 -- `ids::place_in` meets its contract. The loop's invariant: i, and the place in the rest, is the place in all.
-use Rattle.promises.proofs.Prelude.{◌≡◌, ◌∙◌, sym, ◌-◌, ◌≤◌, ◌+◌, zero-add, length, drop, rules}
+use Rattle.promises.proofs.Prelude.{◌≡◌, ◌-◌, ◌≤◌, ◌+◌, length, drop}
 use Rattle.rules.specs.Ids.{place_of}
-use Rattle.ids.proofs.Scans.{place_here, place_next, place_end}
 use Rattle.ids.proofs.place_in.Given as goal
 
 abbrev pub invariant-loop-i : goal.invariant-loop-i

@@ -1,9 +1,8 @@
 -- `ids::repeats_in` meets its contract. The loop's invariant: found so far, or in the rest, is found in all.
-use Rattle.promises.proofs.Prelude.{◌≡◌, refl, ◌∙◌, sym, ap, not, ◌&&◌, List, ℕ, ◌-◌, ◌≤◌, ◌+◌, arith, length, drop, take, length-drop, eqb, rules}
-use mathlib.Core.Bool.{◌||◌}
+use Rattle.promises.proofs.Prelude.{◌≡◌, ◌∙◌, sym, ap, not, ◌&&◌, List, ℕ, ◌-◌, ◌+◌, arith, length, drop, take, length-drop, eqb, rules}
 use lib.Seq.{take_all}
 use Rattle.rules.specs.Table.{◌!◌}
-use Rattle.rules.specs.Ids.{occurs, repeats}
+use Rattle.rules.specs.Ids.{occurs}
 use Rattle.ids.proofs.Scans.{repeats_next, repeats_end}
 use Rattle.ids.proofs.repeats_in.Goals as goal
 

@@ -1,10 +1,7 @@
 -- `ids::repeats_in` meets its contract. The loop's invariant: found so far, or in the rest, is found in all.
-use Rattle.promises.proofs.Prelude.{◌≡◌, refl, ◌∙◌, sym, ap, not, ◌&&◌, List, ℕ, ◌-◌, ◌≤◌, ◌+◌, arith, length, drop, take, length-drop, eqb, rules}
+use Rattle.promises.proofs.Prelude.{◌≡◌, ◌-◌, ◌≤◌, length, drop}
 use mathlib.Core.Bool.{◌||◌}
-use lib.Seq.{take_all}
-use Rattle.rules.specs.Table.{◌!◌}
-use Rattle.rules.specs.Ids.{occurs, repeats}
-use Rattle.ids.proofs.Scans.{repeats_next, repeats_end}
+use Rattle.rules.specs.Ids.{repeats}
 use Rattle.ids.proofs.repeats_in.Given as goal
 
 abbrev pub invariant-loop-i : goal.invariant-loop-i

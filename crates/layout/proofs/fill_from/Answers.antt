@@ -1,8 +1,7 @@
 -- `layout::fill_from` meets its contract. The loop's invariant: below i the part is filled.
-use Rattle.promises.proofs.Prelude.{refl, ◌-◌, arith, length, rules}
-use Rattle.rules.specs.Changes.{open_a}
+use Rattle.promises.proofs.Prelude.{arith, length}
 use Rattle.rules.proofs.Openings.{length_open_a}
-use Rattle.layout.proofs.Filling.{Filling, filling_begins, filling_more, filling_ends}
+use Rattle.layout.proofs.Filling.{filling_ends}
 use Rattle.layout.proofs.fill_from.Goals as goal
 
 pub returns : goal.returns

@@ -1,8 +1,7 @@
 -- `layout::fill_r` meets its contract. The loop's invariant: below i the part is filled.
-use Rattle.promises.proofs.Prelude.{refl, ◌-◌, arith, length, rules}
+use Rattle.promises.proofs.Prelude.{◌-◌, length}
 use Rattle.rules.specs.Changes.{open_r}
-use Rattle.rules.proofs.Openings.{length_open_r}
-use Rattle.layout.proofs.Filling.{Filling, filling_begins, filling_more, filling_ends}
+use Rattle.layout.proofs.Filling.{Filling}
 use Rattle.layout.proofs.fill_r.Given as goal
 
 abbrev pub invariant-loop-i : goal.invariant-loop-i

@@ -1,5 +1,5 @@
 -- `layout::first_r` meets its contract: the last seats, from the end, and then 0.
-use Rattle.promises.proofs.Prelude.{arith, rules}
+use Rattle.promises.proofs.Prelude.{arith}
 use Rattle.rules.proofs.Openings.{open_r_out, open_r_rest}
 use Rattle.layout.proofs.first_r.Goals as goal
 

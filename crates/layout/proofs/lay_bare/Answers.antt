@@ -1,5 +1,4 @@
 -- `layout::lay_bare` meets its contract: it lays out the parts of `laid_bare`.
-use Rattle.promises.proofs.Prelude.{rules}
 use Rattle.layout.proofs.Laid.{laid_bare}
 use Rattle.layout.proofs.lay_bare.Goals as goal
 

@@ -1,9 +1,9 @@
 -- `lines::open_line` meets its contract. The loop's invariant: the ids read so far, before those of the rest, are all ids.
-use Rattle.promises.proofs.Prelude.{◌≡◌, refl, sym, ◌-◌, arith, length, drop, length-drop, rules}
+use Rattle.promises.proofs.Prelude.{◌≡◌, sym, arith, drop, length-drop, rules}
 use Rattle.decimals.specs.Decimal.{got}
 use Rattle.lines.specs.Lines.{next, most_id}
 use Rattle.lines.proofs.Words.{next_got}
-use Rattle.lines.proofs.Listing.{Listing, listing_room, listing_more, listing_ends, listing_breaks}
+use Rattle.lines.proofs.Listing.{listing_more, listing_ends, listing_breaks}
 use Rattle.lines.proofs.open_line.Goals as goal
 use Rattle.lines.proofs.open_line.Goals.{In-Is, In-Is-next}
 

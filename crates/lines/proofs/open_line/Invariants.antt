@@ -1,9 +1,6 @@
 -- `lines::open_line` meets its contract. The loop's invariant: the ids read so far, before those of the rest, are all ids.
-use Rattle.promises.proofs.Prelude.{◌≡◌, refl, sym, ◌-◌, arith, length, drop, length-drop, rules}
-use Rattle.decimals.specs.Decimal.{got}
-use Rattle.lines.specs.Lines.{next, most_id}
-use Rattle.lines.proofs.Words.{next_got}
-use Rattle.lines.proofs.Listing.{Listing, listing_room, listing_more, listing_ends, listing_breaks}
+use Rattle.promises.proofs.Prelude.{◌-◌, length}
+use Rattle.lines.proofs.Listing.{Listing}
 use Rattle.lines.proofs.open_line.Given as goal
 
 abbrev pub invariant-loop-at : goal.invariant-loop-at

@@ -1,5 +1,5 @@
 -- `lines::starts_with` meets its contract. The loop's invariant: what is left of the line begins with what is left of the word, if the line begins with the word.
-use Rattle.promises.proofs.Prelude.{◌≡◌, refl, ◌-◌, length, drop, drop_of_length-le, rules, ne_eqb, eq-eqb}
+use Rattle.promises.proofs.Prelude.{drop_of_length-le, ne_eqb, eq-eqb}
 use Rattle.decimals.proofs.Digits.{byte}
 use Rattle.lines.specs.Lines.{starts}
 use Rattle.lines.proofs.starts_with.Goals as goal

@@ -1,5 +1,5 @@
 -- `moves::seat_last` meets its contract: its stores are those of `seated`.
-use Rattle.promises.proofs.Prelude.{◌<◌, arith, rules}
+use Rattle.promises.proofs.Prelude.{◌<◌, arith}
 use Rattle.moves.proofs.Stores.{is_out, out_below, last_below, back_place, seated}
 use Rattle.moves.proofs.seat_last.Goals as goal
 use Rattle.moves.proofs.seat_last.Goals.{After-get_l-position, After-get_n-n, After-get_w-last}

@@ -1,5 +1,5 @@
 -- `moves::take_out_seat` meets its contract: its stores are those of `taken_out`.
-use Rattle.promises.proofs.Prelude.{◌<◌, arith, rules}
+use Rattle.promises.proofs.Prelude.{◌<◌, arith}
 use Rattle.moves.proofs.Stores.{out_last, out_place, taken_out}
 use Rattle.moves.proofs.take_out_seat.Goals as goal
 use Rattle.moves.proofs.take_out_seat.Goals.{After-get_l-position}

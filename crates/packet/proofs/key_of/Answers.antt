@@ -1,5 +1,5 @@
 -- `packet::key_of` meets its contract: the version says which header is read.
-use Rattle.promises.proofs.Prelude.{◌≡◌, refl, false, List, [], ◌∷◌, ℕ, arith, length, rules, ne_eqb, eq-eqb}
+use Rattle.promises.proofs.Prelude.{◌≡◌, refl, false, List, [], ◌∷◌, ℕ, arith, length, ne_eqb, eq-eqb}
 use Rattle.packet.specs.Packet.{version, well_formed, words_of}
 use Rattle.packet.proofs.key_of.Goals as goal
 

@@ -1,5 +1,4 @@
 -- `packet::packet_key` meets its contract: each way out is one of `Told`.
-use Rattle.promises.proofs.Prelude.{rules}
 use Rattle.packet.proofs.Told.{key_room, key_packet, key_done}
 use Rattle.packet.proofs.packet_key.Goals as goal
 

@@ -1,6 +1,5 @@
 -- `packet::put_lowest_first` meets its contract. The loop's invariant: the bytes of what is left are still to be stored, from i on.
-use Rattle.promises.proofs.Prelude.{◌≡◌, refl, ◌∙◌, ◌-◌, ◌≤◌, suc, add-one, arith, length, length-set, sets, rules}
-use Rattle.fields.proofs.Numbers.{sets_whole}
+use Rattle.promises.proofs.Prelude.{◌≡◌, ◌-◌, ◌≤◌, length, sets}
 use Rattle.packet.specs.Tells.{lowest_first}
 use Rattle.packet.proofs.put_lowest_first.Given as goal
 

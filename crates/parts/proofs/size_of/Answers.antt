@@ -1,5 +1,5 @@
 -- `parts::size_of` meets its contract: its tests are those of `legal`, one after the other.
-use Rattle.promises.proofs.Prelude.{◌∙◌, sym, rules, ne_eqb, eq-eqb, le-leb}
+use Rattle.promises.proofs.Prelude.{◌∙◌, sym, ne_eqb, eq-eqb, le-leb}
 use borrow.Author.Tests.{lt-leb}
 use Rattle.parts.specs.Shape.{size_of}
 use Rattle.parts.proofs.size_of.Goals as goal

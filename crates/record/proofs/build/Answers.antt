@@ -1,5 +1,5 @@
 -- `record::build` meets its contract: a full table is laid out, the removals are made, and the servers stand in S last.
-use Rattle.promises.proofs.Prelude.{arith, rules}
+use Rattle.promises.proofs.Prelude.{arith}
 use Rattle.rules.specs.Table.{part}
 use Rattle.layout.proofs.Laid.{part_long}
 use Rattle.record.proofs.Built.{laid_none}

@@ -1,5 +1,5 @@
 -- `record::load` meets its contract: each way out is one of `Loads`.
-use Rattle.promises.proofs.Prelude.{◌≡◌, refl, ◌∙◌, sym, arith, length, rules}
+use Rattle.promises.proofs.Prelude.{◌≡◌, refl, ◌∙◌, sym, arith, length}
 use Rattle.rules.specs.Table.{run_length}
 use Rattle.fields.proofs.Places.{only}
 use Rattle.form.specs.declared.Recorded.TheVariants.{Of}

@@ -1,5 +1,5 @@
 -- `record::put_ins` meets its contract. The loop's invariant: the records of the seats below b are put, and the next goes after them.
-use Rattle.promises.proofs.Prelude.{◌≡◌, refl, sym, ◌-◌, ◌≤◌, ◌+◌, add-zero, add-one, arith, length, length-append, sets, rules}
+use Rattle.promises.proofs.Prelude.{sym, add-one, arith, length-append, rules}
 use Rattle.rules.specs.Table.{table_for}
 use Rattle.saved.specs.Record.{each, seat_record}
 use Rattle.saved.proofs.Each.{length_within, put_next}

@@ -1,7 +1,7 @@
 -- `record::put_outs` meets its contract. The loop's invariant: the records of the first i entries are put.
-use Rattle.promises.proofs.Prelude.{◌≡◌, refl, ◌-◌, ◌≤◌, arith, length, sets, rules}
+use Rattle.promises.proofs.Prelude.{arith, rules}
 use Rattle.rules.specs.Table.{table_for}
-use Rattle.saved.specs.Record.{each, removal_record}
+use Rattle.saved.specs.Record.{removal_record}
 use Rattle.fields.specs.Form.{out_at}
 use Rattle.fields.proofs.Places.{out_within}
 use Rattle.saved.proofs.Each.{put_next}

@@ -1,11 +1,8 @@
 -- `record::put_outs` meets its contract. The loop's invariant: the records of the first i entries are put.
-use Rattle.promises.proofs.Prelude.{◌≡◌, refl, ◌-◌, ◌≤◌, arith, length, sets, rules}
+use Rattle.promises.proofs.Prelude.{◌≡◌, ◌-◌, ◌≤◌, length, sets}
 use Rattle.rules.specs.Table.{table_for}
 use Rattle.saved.specs.Record.{each, removal_record}
 use Rattle.fields.specs.Form.{out_at}
-use Rattle.fields.proofs.Places.{out_within}
-use Rattle.saved.proofs.Each.{put_next}
-use Rattle.saved.proofs.Holds.{removals_end}
 use Rattle.record.proofs.put_outs.Given as goal
 
 abbrev pub invariant-loop-i : goal.invariant-loop-i

@@ -1,5 +1,5 @@
 -- `record::put_server` meets its contract: a seat in use has a server, and another none.
-use Rattle.promises.proofs.Prelude.{◌≡◌, ◌∙◌, sym, ap, List, ℕ, ◌≤◌, ◌+◌, add-one, arith, length, rules, ne_eqb, eq-eqb}
+use Rattle.promises.proofs.Prelude.{◌≡◌, ◌∙◌, sym, ap, ◌≤◌, ◌+◌, arith, length}
 use Rattle.rules.specs.Table.{◌!◌, Table}
 use Rattle.fields.specs.Form.{in_length, in_at}
 use Rattle.saved.specs.Reader.{bare_from}

@@ -1,9 +1,7 @@
 -- `record::put_servers` meets its contract. The loop's invariant: the seats below b have their servers, and j of them are in use.
-use Rattle.promises.proofs.Prelude.{◌≡◌, refl, ◌-◌, ◌≤◌, arith, length, rules}
-use Rattle.saved.specs.Reader.{rank, bare_from}
-use Rattle.saved.specs.Fits.{Good}
+use Rattle.promises.proofs.Prelude.{refl, arith, rules}
 use Rattle.saved.proofs.Exact.{outs_rank}
-use Rattle.record.proofs.Built.{Served, served_none, served_next, served_all}
+use Rattle.record.proofs.Built.{served_none, served_next, served_all}
 use Rattle.record.proofs.put_servers.Goals as goal
 
 pub loop-b-init : goal.loop-b-init

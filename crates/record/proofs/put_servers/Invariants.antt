@@ -1,9 +1,8 @@
 -- `record::put_servers` meets its contract. The loop's invariant: the seats below b have their servers, and j of them are in use.
-use Rattle.promises.proofs.Prelude.{◌≡◌, refl, ◌-◌, ◌≤◌, arith, length, rules}
+use Rattle.promises.proofs.Prelude.{◌≡◌, ◌-◌, ◌≤◌, length}
 use Rattle.saved.specs.Reader.{rank, bare_from}
 use Rattle.saved.specs.Fits.{Good}
-use Rattle.saved.proofs.Exact.{outs_rank}
-use Rattle.record.proofs.Built.{Served, served_none, served_next, served_all}
+use Rattle.record.proofs.Built.{Served}
 use Rattle.record.proofs.put_servers.Given as goal
 
 abbrev pub invariant-loop-b : goal.invariant-loop-b

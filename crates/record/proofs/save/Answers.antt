@@ -1,5 +1,4 @@
 -- `record::save` meets its contract: it refuses as the audit does, or the table is sound.
-use Rattle.promises.proofs.Prelude.{rules}
 use Rattle.audit.proofs.Told.{fine_sound}
 use Rattle.fields.proofs.Places.{only}
 use Rattle.record.proofs.Saves.{save_refused}

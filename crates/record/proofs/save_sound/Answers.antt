@@ -1,11 +1,11 @@
 -- `record::save_sound` meets its contract: each way out is one of `Saves`.
-use Rattle.promises.proofs.Prelude.{◌-◌, ◌≤◌, arith, length, rules}
+use Rattle.promises.proofs.Prelude.{◌-◌, ◌≤◌, arith, length}
 use Rattle.rules.specs.Table.{◌!◌, table_of}
 use Rattle.fields.specs.Form.{out_at, in_at}
 use Rattle.fields.proofs.Places.{out_first, in_first, out_small, in_small}
 use Rattle.sound.proofs.Sound.{sound_legal}
 use Rattle.saved.proofs.Holds.{seats_all}
-use Rattle.record.proofs.Saves.{long, good, save_room, save_done}
+use Rattle.record.proofs.Saves.{good, save_room, save_done}
 use Rattle.record.proofs.save_sound.Goals as goal
 use Rattle.record.proofs.save_sound.Goals.{Else-out-len}
 

@@ -1,7 +1,6 @@
 -- `record::take_all` meets its contract. The loop's invariant: the run holds the table after i removals.
-use Rattle.promises.proofs.Prelude.{◌≡◌, refl, ◌-◌, ◌≤◌, arith, length, rules}
-use Rattle.record.specs.Building.{Laid}
-use Rattle.record.proofs.Built.{out_room, laid_leaves, laid_next}
+use Rattle.promises.proofs.Prelude.{arith, rules}
+use Rattle.record.proofs.Built.{out_room, laid_next}
 use Rattle.record.proofs.take_all.Goals as goal
 
 pub first_at-requires : goal.first_at-requires

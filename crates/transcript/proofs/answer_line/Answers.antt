@@ -1,5 +1,5 @@
 -- `transcript::answer_line` meets its contract: each command has its call.
-use Rattle.promises.proofs.Prelude.{◌≡◌, refl, sym, ◌≤◌, arith, length, length-take-le, rules}
+use Rattle.promises.proofs.Prelude.{◌≡◌, refl, sym, ◌≤◌, arith, length, length-take-le}
 use Rattle.lines.specs.Lines.{command_of}
 use Rattle.lines.proofs.Standing.{line_of, line_count, told}
 use Rattle.transcript.specs.Transcript.{respond}

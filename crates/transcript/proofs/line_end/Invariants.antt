@@ -1,5 +1,5 @@
 -- `transcript::line_end` meets its contract. The loop's invariant: no LF stands before i.
-use Rattle.promises.proofs.Prelude.{◌≢◌, ℕ, ◌-◌, ◌≤◌, ◌<◌, length, rules, below_more}
+use Rattle.promises.proofs.Prelude.{◌≢◌, ℕ, ◌-◌, ◌≤◌, ◌<◌, length}
 use Rattle.rules.specs.Table.{◌!◌}
 use Rattle.transcript.proofs.line_end.Given as goal
 

@@ -1,7 +1,5 @@
 -- `transcript::put_line` meets its contract: a word, numbers and LF, one behind the other.
-use Rattle.promises.proofs.Prelude.{arith, rules}
-use Rattle.decimals.proofs.Stored.{put_then, put_length}
-use Rattle.transcript.proofs.Saying.{said_length}
+use Rattle.decimals.proofs.Stored.{put_then}
 use Rattle.transcript.proofs.put_line.Goals as goal
 
 pub returns : goal.returns

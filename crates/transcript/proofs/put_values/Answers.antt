@@ -1,7 +1,5 @@
 -- `transcript::put_values` meets its contract. The loop's invariant: the first i numbers stand.
-use Rattle.promises.proofs.Prelude.{refl, ◌-◌, arith, length, take, rules}
-use lib.Seq.{take_all}
-use Rattle.decimals.specs.Places.{Put}
+use Rattle.promises.proofs.Prelude.{refl, arith, rules}
 use Rattle.decimals.proofs.Stored.{put_then, put_length}
 use Rattle.lines.specs.Lines.{spaced}
 use Rattle.transcript.proofs.Saying.{spaced_take, spaced_room}

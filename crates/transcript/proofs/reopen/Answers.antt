@@ -1,5 +1,5 @@
 -- `transcript::reopen` meets its contract: opening does not look at what the run held, and a refused one leaves it.
-use Rattle.promises.proofs.Prelude.{◌≡◌, refl, ◌∙◌, sym, ap, arith, length, take, take-append-drop, length-replicate, length-take-le, rules}
+use Rattle.promises.proofs.Prelude.{◌≡◌, refl, ◌∙◌, sym, ap, arith, length, take, take-append-drop, length-replicate, length-take-le}
 use Rattle.rules.specs.Table.{run_length}
 use Rattle.transcript.specs.Transcript.{reopened}
 use Rattle.transcript.specs.Replies.{table_in}

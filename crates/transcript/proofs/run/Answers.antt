@@ -1,7 +1,7 @@
 -- `transcript::run` meets its contract: too long an input is refused, another is answered line by line.
 use Rattle.promises.proofs.Prelude.{length, rules, le-ltb, lt-ltb}
 use Rattle.transcript.specs.Transcript.{most_input, transcript}
-use Rattle.transcript.proofs.Turns.{put_written, written_counts}
+use Rattle.transcript.proofs.Turns.{put_written}
 use Rattle.transcript.proofs.run.Goals as goal
 
 pub returns-then-input-gt-MOST_INPUT-clause-written : goal.returns-then-input-gt-MOST_INPUT-clause-written

@@ -1,6 +1,6 @@
 -- `transcript::run_lines` meets its contract. The loop's invariant: what is written, before the answers to what is left, is the whole.
-use Rattle.promises.proofs.Prelude.{◌≡◌, refl, ◌-◌, arith, length, rules}
-use Rattle.transcript.proofs.Turns.{So, line_length, fits, so_more, so_ends}
+use Rattle.promises.proofs.Prelude.{rules}
+use Rattle.transcript.proofs.Turns.{so_more, so_ends}
 use Rattle.transcript.proofs.run_lines.Goals as goal
 
 pub loop-i-preserved : goal.loop-i-preserved

@@ -1,5 +1,5 @@
 -- `Cursor::next` meets its contract: each way out is one of `next`.
-use Rattle.promises.proofs.Prelude.{drop_of_length-le, rules, ne_eqb, eq-eqb}
+use Rattle.promises.proofs.Prelude.{drop_of_length-le, ne_eqb, eq-eqb}
 use Rattle.decimals.proofs.Digits.{byte}
 use Rattle.lines.specs.Lines.{next}
 use Rattle.lines.proofs.Cursor.next.Goals as goal
