@@ -11,8 +11,8 @@ END { if (inside) print crate, "? a signature without an end" }
 function outcome(signature,    rest, name) {
     split("", parts)
     count = 0
-    if (signature ~ /-> &/) parts[++count] = "now r"
-    else if (signature ~ /->/) parts[++count] = "r"
+    if (signature ~ /-> &/) parts[++count] = "result.now"
+    else if (signature ~ /->/) parts[++count] = "result"
     rest = signature
     gsub(/&'[a-z]+ mut /, "\\&mut ", rest)
     while (match(rest, /&mut /)) {
@@ -21,7 +21,7 @@ function outcome(signature,    rest, name) {
         if (!sub(/: $/, "", name)) name = "self"
         sub(/.*[^A-Za-z0-9_]/, "", name)
         if (name == "record") name = "«record»" # a word of the specifications' language
-        parts[++count] = "now (" name " .exit)"
+        parts[++count] = name ".new"
     }
 }
 
@@ -35,7 +35,7 @@ function all(said,    i, at) {
     return count > 0 && said ~ /^[][ (),]*$/
 }
 function any(said) {
-    return index(said, ".exit") || said ~ /(^|[^A-Za-z_.])r([^A-Za-z_]|$)/
+    return index(said, ".new") || said ~ /(^|[^A-Za-z_.])result([^A-Za-z_]|$)/
 }
 
 function tell(text,    fn, at, signature, promise) {
@@ -46,9 +46,10 @@ function tell(text,    fn, at, signature, promise) {
     signature = at ? substr(text, 1, at) : text
     sub(/ requires .*/, "", signature)
     outcome(signature)
-    promise = at ? substr(text, at) : "⌜ no promise ⌝"
-    promise = substr(promise, index(promise, "⌜") + length("⌜ "))
-    promise = substr(promise, 1, index(promise, " ⌝") - 1)
+    promise = at ? substr(text, at + length(" ensures ")) : "{ no promise } {"
+    promise = substr(promise, index(promise, "{ ") + length("{ "))
+    if (match(promise, / \} +ensures /)) promise = substr(promise, 1, RSTART - 1)
+    sub(/ \} *\{ *$/, "", promise)
     print crate, fn, shape(promise)
 }
 
@@ -58,12 +59,12 @@ function shape(promise,    at, left, right, name) {
     right = substr(promise, at + length(" ≡ "))
     if (at && count == 1 && left == parts[1] && !any(right)) return "≡"
     left = promise
-    if (sub(/^Decides r /, "", left)) return count == 1 && !any(left) ? "Decides" : "? " promise
+    if (sub(/^Decides result /, "", left)) return count == 1 && !any(left) ? "Decides" : "? " promise
     # the outcome is the last that the predicate is given
-    if (match(promise, / \(r, .*\)$/) || match(promise, / \(now r\)$/) || match(promise, / r$/)) {
+    if (match(promise, / \(result, .*\)$/) || match(promise, / result\.now$/) || match(promise, / result$/)) {
         right = substr(promise, RSTART)
         left = substr(promise, 1, RSTART - 1)
-        name = match(left, /^(Says|Results) [A-Za-z]+ /) || match(left, /^[A-Z][A-Za-z]* /) ? substr(left, 1, RLENGTH - 1) : "?"
+        name = match(left, /^(Says|Results) [A-Za-z_]+ /) || match(left, /^[A-Z][A-Za-z]* /) ? substr(left, 1, RLENGTH - 1) : "?"
         if (all(right) && !any(left) && name !~ /^(Says|Results|\?)$/) return name
     }
     return "? " promise

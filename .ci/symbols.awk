@@ -5,7 +5,7 @@
 # brought. `crates` has our own.
 BEGIN { split("zero suc true false [] yes no", word, " "); for (i in word) constructor[word[i]] }
 FNR == NR && /^#/ { next }
-FNR == NR { for (i = 2; i <= NF; i++) home[$i] = $1; split($1, path, "."); library[path[1]]; next }
+FNR == NR { for (i = 2; i <= NF; i++) { home[$i] = home[$i] " " $1; at_home[$i, $1] }; split($1, path, "."); library[path[1]]; next }
 FNR == 1 { flush(); signature = 0; kind = FILENAME ~ /\/src\// ? "src" : FILENAME ~ /\/specs\// ? "specs" : "proofs" }
 FNR == 1 && FILENAME == "promises/proofs/Prelude.antt" { kind = "prelude" }
 { gsub(/«/, ""); gsub(/»/, "") } # the same name
@@ -21,7 +21,7 @@ kind == "src" {
 { line = $0; sub(/(^| +)--.*/, "", line) }
 kind == "prelude" && line !~ /^(pub use .*)?$/ { tell("the prelude has more than names that it passes on: " line); next }
 FILENAME ~ /\/Lib\.antt$/ && line ~ /^(pub )?mod [A-Za-z]+$/ { next }
-line ~ /(^|[^A-Za-z-])(use|mod|open)( |$)|\{-|-\}/ { import(line); next }
+line ~ /(^|[^A-Za-z_-])(use|mod|open)( |$)|\{-|-\}/ { import(line); next }
 line ~ /^ *infix/ { given(line, 0); next }
 { whole_path(line) }
 # a clause goes on over the lines that are indented
@@ -39,7 +39,7 @@ function tell(what) { print (place ? place : FILENAME ":" FNR) ": " what }
 
 # a name that is written with its module needs no import
 function whole_path(text) {
-    if (kind != "proofs" && text ~ /(^|[^A-Za-z0-9_.])(Rattle·|mathlib\.|lib\.|native\.|Prim\.|borrow\.|denote\.|mir\.)/) tell("a name by its whole path: " text)
+    if (kind != "proofs" && text ~ /(^|[^A-Za-z0-9_.])(Rattle\.|mathlib\.|lib\.|native\.|Prim\.|borrow\.|denote\.|mir\.)/) tell("a name by its whole path: " text)
 }
 
 function promise_import(text) {
@@ -66,7 +66,7 @@ function import(text,    passed, module, name, count, i) {
 }
 
 function ours(module) {
-    if (!sub(/^Rattle·/, "", module)) return 0
+    if (!sub(/^Rattle\./, "", module)) return 0
     sub(/[^a-z0-9_].*/, "", module)
     return index(" " crates " ", " " module " ")
 }
@@ -78,16 +78,16 @@ function brought(module, name, passed,    old) {
         passed = 0
         if (ours(module) || name ~ / as /) tell("the prelude passes on " name " of " module)
         passes_on[name] = module
-    } else if (module ~ /^Rattle·promises(·proofs\.proofs|\.proofs)\.Prelude$/) {
+    } else if (module ~ /^Rattle\.promises\.proofs\.Prelude$/) {
         if (kind != "proofs") tell(name " comes by way of the prelude, which is for proofs")
         else if (name in passes_on) module = passes_on[name]
     }
     if (sub(/.* as /, "", name)) sub(/ as .*/, "", old)
-    if (name in home && home[name] != module) tell(name " comes from " module ", not from " home[name])
+    if (name in home && !((name, module) in at_home)) tell(name " comes from " module ", not from" home[name])
     else if (name in home && old != name) tell(name " is " old " by another name")
     else if (name in home && passed) tell(name " is passed on")
     else if (!(name in home) && kind ~ /^(src|specs)$/ && !ours(module)) tell(name " of " module " is not in .ci/symbols")
-    else if (kind == "src" && ours(module) && module !~ /^Rattle·[a-z0-9_]+(·specs)?\.specs\./) tell(name " comes from " module ", which is no definition")
+    else if (kind == "src" && ours(module) && module !~ /^Rattle\.[a-z0-9_]+\.specs\./) tell(name " comes from " module ", which is no definition")
 }
 
 # The names that a declaration, a binder, a λ, a let and the left side of a clause give. `run` has the words since the last sign or bracket, `left` those of the

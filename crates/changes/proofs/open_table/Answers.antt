@@ -37,15 +37,15 @@ returns-then-seats-ids c = listed (goal.at.returns-then-seats-ids c).Else-t-star
 
 pub returns-then-zero : goal.returns-then-zero
 returns-then-zero c =
-    listed (goal.at.returns-then-zero c).Else-t-start (later (le-ltb _ 1 c.if-ids-lt1.false) (later (le-ltb _ _ c.if-seats-ids.false) (here (sym c.occurs_in-zero.ensures ∙ c.if-zero.true))))
+    listed (goal.at.returns-then-zero c).Else-t-start (later (le-ltb _ 1 c.if-ids-lt1.false) (later (le-ltb _ _ c.if-seats-ids.false) (here (cc))))
 
 pub returns-then-twice : goal.returns-then-twice
 returns-then-twice c =
-    listed (goal.at.returns-then-twice c).Else-t-start (later (le-ltb _ 1 c.if-ids-lt1.false) (later (le-ltb _ _ c.if-seats-ids.false) (later (sym c.occurs_in-zero.ensures ∙ c.if-zero.false) (here (sym c.repeats_in-twice.ensures ∙ c.if-twice.true)))))
+    listed (goal.at.returns-then-twice c).Else-t-start (later (le-ltb _ 1 c.if-ids-lt1.false) (later (le-ltb _ _ c.if-seats-ids.false) (later (cc) (here (cc)))))
 
 pub returns : goal.returns
 returns c =
     ap (λ (w : List ℕ). done (length c.args.ids.now ∷ []) w) c.lay_out.ensures
     ∙ open_done _ _ _ (sized (goal.at.returns c).Else-t-start)
     (more (le-ltb _ 1 c.if-seats-lt1.false) (more (le-ltb most_seats _ c.if-seats-gt-MOST_SEATS.false) (more (le-ltb _ 1 c.if-ids-lt1.false) (more (le-ltb _ _ c.if-seats-ids.false)
-    (more (sym c.occurs_in-zero.ensures ∙ c.if-zero.false) (more (sym c.repeats_in-twice.ensures ∙ c.if-twice.false) none))))))
+    (more (cc) (more (cc) none))))))

@@ -19,7 +19,7 @@ absent c = sym c.is_seated.ensures ∙ c.if-is_seated.false
 
 -- there is room
 room : (c : Else-get_n-a) → let w = c.args.t.now in w ! 1 ≢ w ! 0
-room c e = c.if-get_n-a.false (c.get_n.ensures ∙ e ∙ sym c.get_seats-a.ensures)
+room c e = omega (arith, e, c.if-get_n-a.false, c.get_n.ensures, c.get_seats-a.ensures)
 
 pub returns-then-id-eq0 : goal.returns-then-id-eq0
 returns-then-id-eq0 c = seat_first c.requires _ (here (eq-eqb _ 0 c.if-id-eq0.true))
