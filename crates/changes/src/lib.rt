@@ -91,7 +91,8 @@ fn out_sound(t: &mut [u32], id: u32) -> Changed
         return Changed::Refused(Refusal::Id);
     }
     if is_seated(t, id) {
-        if get_n(t) == 1 {
+        let alone = get_n(t) == 1;
+        if alone {
             return Changed::Refused(Refusal::Last);
         }
         let b = seat_of(t, id);

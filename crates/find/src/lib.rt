@@ -114,7 +114,8 @@ pub fn find_server(t: &[u32], key: u64) -> Lookup
         return Lookup::Refused(Refusal::Damaged);
     };
     let server = get_s(t, a, b);
-    if server == 0 {
+    let vacant = server == 0;
+    if vacant {
         return Lookup::Refused(Refusal::Damaged);
     }
     Lookup::On(b, server, draws, walks)

@@ -53,10 +53,10 @@ get_s-server-requires c =
     let t = (told (goal.at.get_s-server-requires c).In-Is).1 in
     (t.shape, omega (arith, rw c.in-At.is at c.look_up.ensures.within))
 
-pub returns-then-server-eq0 : goal.returns-then-server-eq0
-returns-then-server-eq0 c =
-    sym (led (goal.at.returns-then-server-eq0 c).After-look_up _ c.in-At.is ∙ rw (← c.get_s-server.ensures, c.if-server-eq0.true))
+pub returns-then-vacant : goal.returns-then-vacant
+returns-then-vacant c =
+    sym (led (goal.at.returns-then-vacant c).After-look_up _ c.in-At.is ∙ rw (← c.get_s-server.ensures, c.if-vacant.true))
 
 pub returns : goal.returns
 returns c =
-    sym (led (goal.at.returns c).After-look_up _ c.in-At.is ∙ rw (← c.get_s-server.ensures, ne_eqb _ _ c.if-server-eq0.false))
+    sym (led (goal.at.returns c).After-look_up _ c.in-At.is ∙ rw (← c.get_s-server.ensures, ne_eqb _ _ c.if-vacant.false))
