@@ -42,26 +42,26 @@ To read on: man -l man/seats.1, and for C man -l man/steamacorn.3
 HELP
 }
 
-# prove LOG: a line for each crate as rt proves it; one that rt finds unchanged is only counted. LOG gets all that rt says. What rt runs
-# at the end reads nothing and writes nothing.
+# prove LOG: a line for each crate as rt proves it, with how many are proved by then; one that rt finds unchanged has none. LOG gets all that rt says. What rt
+# runs at the end reads nothing.
 prove() {
-    local crates proved=0 name='' line
-    crates=$(awk -F ':' '/^[a-z]/ { sub(/ .*/, "", $1); needs[$1] = $2 }
+    local stands_on crates name='' line
+    stands_on=$(awk -F ':' '/^[a-z]/ { sub(/ .*/, "", $1); needs[$1] = $2 }
         function counted(name, on, i, sum) {
             if (!(name in needs) || name in seen) return 0
             seen[name] = sum = 1
             for (i = split(needs[name], on, " "); i > 0; i--) sum += counted(on[i])
             return sum
         }
-        END { print counted("seats") }' crates.txt)
+        END { for (name in needs) { split("", seen); print name, counted(name) } }' crates.txt)
+    crates=$(sed -n 's/^seats //p' <<<"$stands_on")
     echo "seats.sh: proving what is not proved yet of $crates crates, and building: some minutes the first time" >&2
     (cd crates/seats && rt run) 2>&1 </dev/null | tee "$1" | while IFS= read -r line; do
         if [[ $line =~ ^crate\ ([a-z0-9_]+):\ modules\ .*\ checked=([0-9]+)$ ]]; then
             name=${BASH_REMATCH[1]}
-            proved=$((proved + 1))
             [ "${BASH_REMATCH[2]}" != 0 ] || name=
         elif [[ $line == logic=proved* && -n $name ]]; then
-            echo "seats.sh: $name proved ($proved of $crates)" >&2
+            echo "seats.sh: $name proved ($(sed -n "s/^$name //p" <<<"$stands_on") of $crates)" >&2
             name=
         fi
     done
