@@ -85,4 +85,5 @@ fi
 kit=$(dirname "$(rt doc)")
 emulator=$kit/on/$(uname -m)/toolchain/bin/qemu-x86_64
 [ -x "$emulator" ] || emulator=
+[ -n "$emulator" ] || [ "$(uname -m)" = x86_64 ] || emulator=$(command -v qemu-x86_64) || { echo "seats.sh: no emulator for x86-64 programs here: install qemu-user" >&2; exit 1; }
 exec ${emulator:+"$emulator"} "$kit/toolchain/lib/ld-linux-x86-64.so.2" --library-path "$kit/toolchain/lib" "$program"
