@@ -1,7 +1,7 @@
 // Standard input to standard output. One byte more than an input may have is read, so that a longer one is seen.
 #![tactic(auto)]
 
-ghost use Rattle.transcript.specs.Written.{IsPrefixLen};
+ghost use Rattle.std.specs.Counts.{IsPrefixLen};
 
 use std::io::{self, Read, Write};
 use transcript::{MOST_INPUT, MOST_OUTPUT};
@@ -23,7 +23,7 @@ fn read_full<R: Read>(reader: &mut R, bytes: &mut [u8]) -> usize
 
 fn main(rt: HostRuntime) {
     let mut input = [0u8; MOST_INPUT + 1];
-    let n = read_full(&mut rt.reader(), &mut input);
+    let n = read_full(&mut rt.stdin(), &mut input);
     let mut out = [0u8; MOST_OUTPUT];
     let len = transcript::run(&input[..n], &mut out);
     // where the answers cannot be written there is nobody to be told

@@ -3,6 +3,7 @@ use Rattle.promises.proofs.Prelude.{◌≡◌, ◌∙◌, sym, ap, List, [], ◌
 use Rattle.promises.proofs.Prelude.{length-append, take, length-drop, drop_of_length-le, take-append-drop, length-take-le, drop-drop, get_or-take}
 use lib.ListN.{get_or-eq_default}
 use lib.Seq.{get_or-drop}
+use Rattle.std.specs.Counts.{IsPrefixLen}
 use Rattle.promises.specs.One.{One}
 use Rattle.decimals.specs.Places.{Put}
 use Rattle.decimals.proofs.Digits.{byte}
@@ -12,7 +13,7 @@ use Rattle.lines.specs.LinesOf.{HasNoEnd}
 use Rattle.lines.proofs.LinesOf.{lines_of_ended, lines_of_unended}
 use Rattle.transcript.specs.Transcript.{respond, replies}
 use Rattle.transcript.specs.Replies.{byte_room, line_room, reply_most, Puts, table_in, After, Ends}
-use Rattle.transcript.specs.Written.{Written, IsPrefixLen}
+use Rattle.transcript.specs.Written.{Written}
 use Rattle.transcript.specs.declared.Answered.{Answered}
 
 -- the line that begins at `at` and ends at r

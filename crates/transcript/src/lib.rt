@@ -2,6 +2,7 @@
 #![tactic(auto)]
 
 ghost use Rattle.std.specs.Prelude.{◌≡◌, [], ◌∷◌, ◌+◌, ◌*◌, ◌≤◌, ◌<◌, length, replicate};
+ghost use Rattle.std.specs.Counts.{IsPrefixLen};
 ghost use Rattle.rules.specs.Table.{run_length, most_seats};
 ghost use Rattle.decimals.specs.Decimal.{decimal};
 ghost use Rattle.decimals.specs.Places.{Put};
@@ -11,7 +12,7 @@ ghost use Rattle.find.specs.Find.{lookup_answer};
 ghost use Rattle.transcript.specs.Printing.{said};
 ghost use Rattle.transcript.specs.Transcript.{reopened, looked, respond, replies, transcript};
 ghost use Rattle.transcript.specs.Replies.{line_most, line_room, reply_most, Puts, Short, table_in, After, Ends, Lent};
-ghost use Rattle.transcript.specs.Written.{Written, IsPrefixLen};
+ghost use Rattle.transcript.specs.Written.{Written};
 
 use changes::{Changed, Opened, open_table, seat_server, take_out};
 use decimals::{put_bytes, put_decimal};

@@ -16,7 +16,9 @@ pub overflow_add-j : goal.overflow_add-j
 overflow_add-j c = omega (arith, c.requires, in_least c.args.f c.args.m (c.args.j + 1))
 
 pub differ-requires-in-loop-i : goal.differ-requires-in-loop-i
-differ-requires-in-loop-i c = (room c.args.f c.args.s.now c.args.m c.args.j c.requires c.loop-i.i (omega arith), c.requires)
+differ-requires-in-loop-i c =
+    let long = in_within c.args.f c.args.m c.args.j (c.args.j + 1) (omega arith) in
+    (room c.args.f c.args.s.now c.args.m c.args.j c.requires c.loop-i.i (omega arith), omega (arith, c.requires, long))
 
 pub overflow_add-j-2 : goal.overflow_add-j-2
 overflow_add-j-2 c = omega (arith, c.requires, in_least c.args.f c.args.m (c.args.j + 1))
