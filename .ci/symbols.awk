@@ -39,7 +39,7 @@ function tell(what) { print (place ? place : FILENAME ":" FNR) ": " what }
 
 # a name that is written with its module needs no import
 function whole_path(text) {
-    if (kind != "proofs" && text ~ /(^|[^A-Za-z0-9_.])(Rattle\.|mathlib\.|lib\.|native\.|Prim\.|borrow\.|denote\.|mir\.)/) tell("a name by its whole path: " text)
+    if (kind != "proofs" && text ~ /(^|[^A-Za-z0-9_.])(Rattle|Prim|core|std|std_[a-z]+|mathlib|lib|native|text|seplogic|mir|base|store|ghost|prog|types|contract|denote|abs|borrow)\.[A-Za-z]/) tell("a name by its whole path: " text)
 }
 
 function promise_import(text) {
