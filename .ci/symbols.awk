@@ -3,8 +3,9 @@
 # from it. A line for each that is brought from another module or under another name, passed on, or bound there; one for each of the toolchain's names that
 # a promise or a definition brings and .ci/symbols does not have; and one for each import of a form that is not read here. At the end, how many names were
 # brought. `crates` has our own.
-BEGIN { split("zero suc true false [] yes no", word, " "); for (i in word) constructor[word[i]] }
+BEGIN { split("zero suc true false [] yes no Some None Ok Err", word, " "); for (i in word) constructor[word[i]] }
 FNR == NR && /^#/ { next }
+FNR == NR && /^here / { sub(/^here /, ""); for (i = 2; i <= NF; i++) word_too[$i] }
 FNR == NR { for (i = 2; i <= NF; i++) { home[$i] = home[$i] " " $1; at_home[$i, $1] }; split($1, path, "."); library[path[1]]; next }
 FNR == 1 { flush(); signature = 0; kind = FILENAME ~ /\/src\// ? "src" : FILENAME ~ /\/specs\// ? "specs" : "proofs" }
 FNR == 1 && FILENAME == "promises/proofs/Prelude.antt" { kind = "prelude" }
@@ -43,7 +44,7 @@ function whole_path(text) {
 }
 
 function promise_import(text) {
-    if (sub(/^ghost /, "", text) && sub(/;$/, "", text)) import(text)
+    if (sub(/^ *ghost /, "", text) && sub(/;$/, "", text)) import(text)
     else tell("an import of a form that is not read: " text)
 }
 
@@ -74,6 +75,7 @@ function ours(module) {
 function brought(module, name, passed,    old) {
     names++
     old = name
+    brings[FILENAME, name]
     if (kind == "prelude") {
         passed = 0
         if (ours(module) || name ~ / as /) tell("the prelude passes on " name " of " module)
@@ -116,5 +118,5 @@ function bound(text,    token, count, i, depth, run, left, top, on_left) {
 # in a pattern a constructor is no new name
 function given(list, pattern,    name, count, i) {
     count = split(list, name, " ")
-    for (i = 1; i <= count; i++) if (name[i] in home && !(pattern && name[i] in constructor)) tell(name[i] " gets another meaning")
+    for (i = 1; i <= count; i++) if (name[i] in home && !(pattern && name[i] in constructor) && (!(name[i] in word_too) || (FILENAME, name[i]) in brings)) tell(name[i] " gets another meaning")
 }

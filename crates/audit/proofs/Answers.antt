@@ -8,7 +8,7 @@ use Rattle.rules.specs.declared.Refusal.TheVariants.{Size, Damaged}
 use Rattle.rules.specs.Runs.{Legal}
 use Rattle.rules.proofs.Words.{is_legal_lem}
 use Rattle.parts.specs.Shape.{size_of}
-use Rattle.parts.specs.declared.Size.TheVariants.{Is}
+use Rattle.std.specs.Prelude.{Some}
 use Rattle.parts.proofs.Sized.{told_seats}
 use Rattle.sound.proofs.Sound.{sound?}
 use Rattle.promises.proofs.Decided.{true_or_false, yes_true, no_false}
@@ -39,7 +39,7 @@ module _ (w : List ℕ) where
     audit_fine s = rw (l, is_sound_lem s) refl
 
 -- the same, by what the code has seen of a run for a seats
-module _ (w : List ℕ) (a : ℕ) (size : size_of w ≡ Is a) where
+module _ (w : List ℕ) (a : ℕ) (size : size_of w ≡ Some a) where
   is_legal : legal w ≡ true
   is_legal = (told_seats w a size).0
 

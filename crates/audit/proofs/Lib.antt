@@ -1,4 +1,3 @@
-pub mod Decisions
 pub mod Exact
 pub mod Answers
 pub mod Told

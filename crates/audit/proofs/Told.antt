@@ -1,14 +1,15 @@
 -- What the audit's answer tells a call that asks it first: the same refusal, or a sound table.
 use Rattle.promises.proofs.Prelude.{◌≡◌, refl, ◌∙◌, sym, ap, inl, inr, true, false, Bool, not, List, [], ◌++◌, ℕ}
 use Rattle.rules.specs.History.{Sound}
-use Rattle.rules.specs.Answers.{fine, refused, Outcome, refused_at, Occasion, first_that, Free, none, more}
+use Rattle.std.specs.Prelude.{Result, Ok}
+use Rattle.rules.specs.Answers.{fine, Says, refused, Outcome, refused_at, Occasion, first_that, Free, none, more}
 use Rattle.rules.specs.declared.Refusal.{Refusal}
 use Rattle.rules.proofs.Numbers.{not_fine, refused_injective}
 use Rattle.rules.proofs.Occasions.{First, here, later, first_is, free_is, sorted}
 use Rattle.rules.proofs.Words.{legal_is}
 use Rattle.sound.proofs.Sound.{sound?, sound_legal}
 use Rattle.promises.proofs.Decided.{true_or_false, true_yes}
-use Rattle.audit.specs.Audit.{is_sound, audit_refusals, audit_call}
+use Rattle.audit.specs.Audit.{is_sound, audited_answer, audit_refusals, audit_call}
 use Rattle.audit.proofs.Answers.{is_sound_lem}
 
 before : {r : Refusal} {os : List Occasion} (rest : List Occasion) → First r os → First r (os ++ rest)
@@ -46,3 +47,7 @@ module _ {w : List ℕ} (s : Sound w) where
 
 pub after_audit : (w : List ℕ) {os : List Occasion} → Free (audit_refusals w ++ os) → Free os
 after_audit w (more l (more s f)) = f
+
+-- what a call has that asks the audit first, and goes on where it is fine
+pub audited : {w : List ℕ} {r : Result (Unit {0}) Refusal} {u : Unit {0}} → Says audited_answer (audit_call w) r → r ≡ Ok u → Sound w
+audited {w} e ok = fine_sound w (rw ok at e)

@@ -1,22 +1,20 @@
 -- Document 01, 'Numbers a call can answer': the audit, 1, 5. SIZE where the words have no legal shape, DAMAGED where they are not sound, else 0 with no value.
-use Rattle.std.specs.Prelude.{Bool, not, List, [], ◌∷◌, ℕ}
+use Rattle.std.specs.Prelude.{Bool, not, List, [], ◌∷◌, ℕ, Result}
 use Rattle.rules.specs.Table.{legal}
 use Rattle.rules.specs.History.{Sound}
-use Rattle.rules.specs.Answers.{Answer, fine, refused, Occasion, ◌⇒◌, first_that}
+use Rattle.rules.specs.Answers.{Answer, fine, refused, result_answer, Occasion, ◌⇒◌, first_that}
+use Rattle.rules.specs.declared.Refusal.{Refusal}
 use Rattle.rules.specs.declared.Refusal.TheVariants.{Size, Damaged}
 use Rattle.sound.proofs.Sound.{sound?}
 use Rattle.promises.specs.Decides.{decided}
-use Rattle.audit.specs.declared.Audited.{Audited}
-use Rattle.audit.specs.declared.Audited.TheVariants as audited
 
 -- are these words sound? `sound?` decides it: it is a proof of `Sound w`, or of its contrary
 unfoldable pub is_sound : List ℕ → Bool
 is_sound w = decided {P = Sound w} (sound? w)
 
 -- the number and the values of each answer
-abbrev pub audited_answer : Audited → Answer
-audited_answer audited.Sound = fine []
-audited_answer (audited.Refused r) = refused r
+abbrev pub audited_answer : Result (Unit {0}) Refusal → Answer
+audited_answer = result_answer (λ _. [])
 
 -- what every call that reads or changes a table, but find, asks of its run first
 abbrev pub audit_refusals : List ℕ → List Occasion

@@ -2,3 +2,4 @@
 pub mod Audit
 -- What serves the proofs.
 pub mod Pass
+pub mod Reading

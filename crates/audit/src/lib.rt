@@ -2,184 +2,142 @@
 #![tactic(auto)]
 
 ghost use Rattle.std.specs.Prelude.{◌≡◌, ◌<◌};
-ghost use Rattle.rules.specs.Table.{◌!◌, table_for};
-ghost use Rattle.rules.specs.Runs.{Shape};
 ghost use Rattle.rules.specs.Answers.{Says};
-ghost use Rattle.sound.specs.Test.{Owes, Removed, RemovalPasses};
-ghost use Rattle.promises.specs.Decides.{Decides};
-ghost use Rattle.audit.specs.Pass.{HeadPasses, Counted, LineHas, ServedPasses, IndexPasses, AllPass};
+ghost use Rattle.audit.specs.Pass.{Counted};
 ghost use Rattle.audit.specs.Audit.{audited_answer, audit_call};
 
 use ids::repeats_in;
-use parts::{Size, get_a, get_k, get_l, get_n, get_r, get_s, get_w, servers, size_of};
+use parts::{A, K, L, R, Run, S, USED, W, size_of};
 use rules::{Position, Refusal, Seat};
 
+// The one pass over a run, where N is from 1 to a. That a seat or a position lies in the run is a fact of the two, and each test asks for it.
 #[derive(Clone, Copy)]
-pub enum Audited {
-    Sound,
-    Refused(Refusal),
+struct Pass<'a> {
+    run: Run<'a>,
+    used: usize,
+    ghost counted: { Counted run.words.now run.seats used },
 }
 
-// Are the two words equal?
-fn equal(x: u32, y: u32) -> bool
-    ensures { Decides result (x ≡ y) }
-{
-    if x == y { true } else { false }
-}
+impl Pass<'_> {
+    ghost use Rattle.rules.specs.Table.{◌!◌};
+    ghost use Rattle.sound.specs.Test.{Owes, Removed, RemovalPasses};
+    ghost use Rattle.promises.specs.Decides.{Decides};
+    ghost use Rattle.audit.specs.Pass.{LineHas, ServedPasses, IndexPasses, AllPass};
+    ghost use Rattle.audit.specs.Reading.{table_in};
 
-// Is x the seat that W has at q, and, where q is in the line, q the position that L has for x?
-fn stands(t: &[u32], a: usize, n: usize, x: Seat, q: Position) -> bool
-    requires { (Counted t.now a n) × (x.0 < a) × (q.0 < a) }
-    ensures { Decides result (LineHas (table_for a t.now).bare x.0 q.0) }
-{
-    if get_w(t, a, q).0 != x.0 {
-        return false;
+    // Is x the seat that W has at q, and, where q is in the line, q the position that L has for x?
+    fn stands(&self, x: Seat, q: Position) -> bool
+        requires { (x.0 < self.now.run.seats) × (q.0 < self.now.run.seats) }
+        ensures { Decides result (LineHas (table_in self.now).bare x.0 q.0) }
+    {
+        self.run.get::<W>(q) == x && (self.used <= q.0 as usize || self.run.get::<L>(x) == q)
     }
-    if n <= q.0 as usize {
-        return true;
-    }
-    equal(get_l(t, a, x).0, q.0)
-}
 
-// Do the words say that seat x stood at position q?
-fn owes(t: &[u32], a: usize, n: usize, x: Seat, q: Position) -> bool
-    requires { (Counted t.now a n) × (x.0 < a) × (q.0 < a) }
-    ensures { Decides result (Owes (table_for a t.now).bare x.0 q.0) }
-{
-    let left = get_a(t, a, x);
-    if left == 0 {
-        return stands(t, a, n, x, q);
+    // Do the words say that seat x stood at position q?
+    fn owes(&self, x: Seat, q: Position) -> bool
+        requires { (x.0 < self.now.run.seats) × (q.0 < self.now.run.seats) }
+        ensures { Decides result (Owes (table_in self.now).bare x.0 q.0) }
+    {
+        let left = self.run.get::<A>(x);
+        if left == 0 || left < q.0 {
+            return self.stands(x, q);
+        }
+        self.run.get::<L>(x) == q
     }
-    if left < q.0 {
-        return stands(t, a, n, x, q);
-    }
-    equal(get_l(t, a, x).0, q.0)
-}
 
-// Are the words of seat x right? Its history begins where the line of all a seats has it.
-fn seat_passes(t: &[u32], a: usize, n: usize, x: Seat, first: Position) -> bool
-    requires { (Counted t.now a n) × (x.0 < a) × (first.0 ≡ x.0) }
-    ensures { Decides result (ServedPasses (table_for a t.now) x.0) }
-{
-    let id = get_s(t, a, x);
-    let left = get_a(t, a, x) as usize;
-    if left == 0 {
-        if id == 0 {
+    // Are the words of seat x right? Its history begins where the line of all a seats has it.
+    fn seat_passes(&self, x: Seat, first: Position) -> bool
+        requires { (x.0 < self.now.run.seats) × (first.0 ≡ x.0) }
+        ensures { Decides result (ServedPasses (table_in self.now) x.0) }
+    {
+        let id = self.run.get::<S>(x);
+        let left = self.run.get::<A>(x) as usize;
+        if left == 0 {
+            return id != 0 && self.run.get::<K>(x) == x && self.owes(x, first);
+        }
+        id == 0
+            && (self.used..self.run.seats).contains(&left)
+            && self.run.get::<R>(self.run.seats - 1 - left) == x
+            && self.owes(x, first)
+    }
+
+    // Are the words right that the taking out of b, entry i of R, left?
+    fn removed(&self, i: usize, b: Seat) -> bool
+        requires { i < self.now.run.seats }
+        ensures { Decides result (Removed (table_in self.now).bare i b.0) }
+    {
+        let a = self.run.seats;
+        if a <= b.0 as usize {
             return false;
         }
-        if get_k(t, a, x).0 != x.0 {
+        let p = a - 1 - i;
+        if self.run.get::<A>(b) as usize != p {
             return false;
         }
-        return owes(t, a, n, x, first);
+        let last = self.run.get::<W>(Position(p as u32));
+        if self.run.get::<K>(b) != last {
+            return false;
+        }
+        if last == b {
+            return true;
+        }
+        if a <= last.0 as usize {
+            return false;
+        }
+        let q = self.run.get::<L>(b);
+        if p <= q.0 as usize {
+            return false;
+        }
+        self.owes(last, q)
     }
-    if id != 0 {
-        return false;
+
+    // Is entry i of R right?
+    fn removal_passes(&self, i: usize) -> bool
+        requires { i < self.now.run.seats }
+        ensures { Decides result (RemovalPasses (table_in self.now).bare i) }
+    {
+        let b = self.run.get::<R>(i);
+        if i < self.run.seats - self.used {
+            return self.removed(i, b);
+        }
+        b == Seat(0)
     }
-    if left < n {
-        return false;
+
+    // Is i right, as a seat and as an entry of R? The line of all a seats has b at b, so i counts its seats and its positions.
+    fn index_passes(&self, i: usize) -> bool
+        requires { i < self.now.run.seats }
+        ensures { Decides result (IndexPasses (table_in self.now) i) }
+    {
+        self.seat_passes(Seat(i as u32), Position(i as u32)) & self.removal_passes(i)
     }
-    if a <= left {
-        return false;
+
+    // A, K, W, L and R, each index, with no way out of the loop.
+    fn all_pass(&self) -> bool
+        ensures { Decides result (AllPass (table_in self.now) self.now.run.seats) }
+    {
+        let mut ok = true;
+        for i in 0..self.run.seats {
+            ok &= self.index_passes(i);
+        }
+        ok
     }
-    if get_r(t, a, a - 1 - left).0 != x.0 {
-        return false;
-    }
-    owes(t, a, n, x, first)
 }
 
-// Are the words right that the taking out of b, entry i of R, left?
-fn removed(t: &[u32], a: usize, n: usize, i: usize, b: Seat) -> bool
-    requires { (Counted t.now a n) × (i < a) }
-    ensures { Decides result (Removed (table_for a t.now).bare i b.0) }
-{
-    if a <= b.0 as usize {
-        return false;
-    }
-    let p = a - 1 - i;
-    if get_a(t, a, b) as usize != p {
-        return false;
-    }
-    let last = get_w(t, a, Position(p as u32));
-    if get_k(t, a, b).0 != last.0 {
-        return false;
-    }
-    if last.0 == b.0 {
-        return true;
-    }
-    if a <= last.0 as usize {
-        return false;
-    }
-    let q = get_l(t, a, b);
-    if p <= q.0 as usize {
-        return false;
-    }
-    owes(t, a, n, last, q)
-}
-
-// Is entry i of R right?
-fn removal_passes(t: &[u32], a: usize, n: usize, i: usize) -> bool
-    requires { (Counted t.now a n) × (i < a) }
-    ensures { Decides result (RemovalPasses (table_for a t.now).bare i) }
-{
-    let b = get_r(t, a, i);
-    if i < a - n {
-        return removed(t, a, n, i, b);
-    }
-    equal(b.0, 0)
-}
-
-// Is i right, as a seat and as an entry of R? The line of all a seats has b at b, so i counts its seats and its positions.
-fn index_passes(t: &[u32], a: usize, n: usize, i: usize) -> bool
-    requires { (Counted t.now a n) × (i < a) }
-    ensures { Decides result (IndexPasses (table_for a t.now) i) }
-{
-    seat_passes(t, a, n, Seat(i as u32), Position(i as u32)) & removal_passes(t, a, n, i)
-}
-
-// One pass over A, K, W, L and R.
-fn all_pass(t: &[u32], a: usize, n: usize) -> bool
-    requires { Counted t.now a n }
-    ensures { Decides result (AllPass (table_for a t.now) a) }
-{
-    let mut ok = true;
-    let mut i: usize = 0;
-    while i < a {
-        ok = ok & index_passes(t, a, n, i);
-        i += 1;
-    }
-    ok
-}
-
-// Is N right?
-fn head_passes(t: &[u32], a: usize) -> bool
-    requires { Shape t.now a }
-    ensures { Decides result (HeadPasses t.now a) }
-{
-    let n = get_n(t) as usize;
-    if n < 1 {
-        return false;
-    }
-    if a < n {
-        return false;
-    }
-    true
-}
-
-pub fn audit_table(t: &[u32]) -> Audited
+pub fn audit_table(t: &[u32]) -> Result<(), Refusal>
     ensures { Says audited_answer (audit_call t.now) result }
 {
-    let Size::Is(a) = size_of(t) else {
-        return Audited::Refused(Refusal::Size);
-    };
-    if !head_passes(t, a) {
-        return Audited::Refused(Refusal::Damaged);
+    let seats = size_of(t).ok_or(Refusal::Size)?;
+    let used = t[USED] as usize;
+    if !(1..=seats).contains(&used) {
+        return Err(Refusal::Damaged);
     }
-    if all_pass(t, a, get_n(t) as usize) {
-        // the one search among pairs
-        if repeats_in(servers(t, a)) {
-            return Audited::Refused(Refusal::Damaged);
-        }
-        return Audited::Sound;
+    let run = Run { words: t, seats };
+    if !(Pass { run, used }).all_pass() {
+        return Err(Refusal::Damaged);
     }
-    Audited::Refused(Refusal::Damaged)
+    // the one search among pairs
+    if repeats_in(run.part::<S>()) {
+        return Err(Refusal::Damaged);
+    }
+    Ok(())
 }

@@ -1,25 +1,21 @@
 -- Document 01, 'Numbers a call can answer': opening, seating and taking out. Each gives the answer and the run after it, on all inputs.
-use Rattle.std.specs.Prelude.{not, List, [], ◌∷◌, ◌++◌, ℕ, length, eqb}
+use Rattle.std.specs.Prelude.{not, List, [], ◌∷◌, ◌++◌, ℕ, length, eqb, Result}
 use Rattle.rules.specs.Table.{words, run_length, table_of}
 use Rattle.rules.specs.Changes.{opened, last_out, take_out, seat_id}
 use Rattle.rules.specs.Ids.{place_of}
-use Rattle.rules.specs.Answers.{Answer, fine, refused, Outcome, refused_at, done, ◌⇒◌, first_that}
+use Rattle.rules.specs.Answers.{Answer, result_answer, Outcome, refused_at, done, ◌⇒◌, first_that}
 use Rattle.rules.specs.History.{open_refusals, out_refusals, seat_refusals}
+use Rattle.rules.specs.declared.Seat.{Seat}
+use Rattle.rules.specs.declared.Refusal.{Refusal}
 use Rattle.rules.specs.declared.Refusal.TheVariants.{Size}
 use Rattle.audit.specs.Audit.{audit_refusals}
-use Rattle.changes.specs.declared.Opened.{Opened}
-use Rattle.changes.specs.declared.Opened.TheVariants as opens
-use Rattle.changes.specs.declared.Changed.{Changed}
-use Rattle.changes.specs.declared.Changed.TheVariants as changes
 
 -- the number and the values of each answer
-abbrev pub opened_answer : Opened → Answer
-opened_answer (opens.Used n) = fine (n ∷ [])
-opened_answer (opens.Refused r) = refused r
+abbrev pub opened_answer : Result ℕ Refusal → Answer
+opened_answer = result_answer (λ n. n ∷ [])
 
-abbrev pub changed_answer : Changed → Answer
-changed_answer (changes.At b) = fine (b.0 ∷ [])
-changed_answer (changes.Refused r) = refused r
+abbrev pub changed_answer : Result Seat Refusal → Answer
+changed_answer = result_answer (λ b. b.0 ∷ [])
 
 -- Opening takes a from its argument and ignores what the run w held: SIZE where it is not of a's length, and then what refuses the opening
 unfoldable pub open_call : List ℕ → ℕ → List ℕ → Outcome

@@ -1,14 +1,9 @@
 -- Bytes stored one after the other.
-use Rattle.promises.proofs.Prelude.{◌≡◌, refl, List, [], ◌∷◌, ◌++◌, ℕ, ◌<◌, ◌+◌, add-one, arith, length, drop, set, length-append, take, length-take-le, sets}
+use Rattle.promises.proofs.Prelude.{◌≡◌, refl, List, [], ◌∷◌, ◌++◌, ℕ, ◌<◌, ◌+◌, arith, length, drop, set, length-append, take, length-take-le}
 use Rattle.promises.proofs.Prelude.{take_at}
-use lib.Seq.{length-sets, sets-eq, take-suc, drop_at}
-use Rattle.rules.specs.Table.{◌!◌}
+use lib.Seq.{length-sets, sets-eq, drop_at}
 use Rattle.rules.proofs.Lists.{sets_append}
 use Rattle.decimals.specs.Places.{Put}
-
--- one byte more of s
-pub sets_more : (l s : List ℕ) (at i : ℕ) → i < length s → set (sets l at (take i s)) (at + i) (s ! i) ≡ sets l at (take (i + 1) s)
-sets_more l s at i h = rw (add-one, take-suc s i 0, ← sets_append l (take i s) (s ! i ∷ []) at, length-take-le i s (omega arith))
 
 pub put_length : {l₀ l₁ : List ℕ} {at to : ℕ} {bs : List ℕ} → Put bs at l₀ (to, l₁) → length l₁ ≡ length l₀
 put_length p = rw (p.bytes, length-sets)

@@ -1,22 +1,20 @@
 -- What the functions leave, by places in bytes.
-use Rattle.std.specs.Prelude.{◌≡◌, List, ℕ, ◌+◌, ◌≤◌, length, drop}
+use Rattle.std.specs.Prelude.{◌≡◌, List, ℕ, ◌+◌, ◌≤◌, length, Option, Some, None, option_map}
+use Rattle.std.specs.Borrow.{Bor}
 use Rattle.std.proofs.lemmas.List.Edits.{sets}
 use Rattle.decimals.specs.Decimal.{Read, got, bad}
-use Rattle.decimals.specs.declared.Number.{Number}
-use Rattle.decimals.specs.declared.Number.TheVariants as numbers
 
-abbrev pub read_of : List ℕ → Number → Read
-read_of s (numbers.Value v at) = got v (drop at s)
-read_of s numbers.Bad = bad
+-- an answer, with the bytes themselves for the reference to them
+abbrev pub seen : Option (ℕ × Bor (List ℕ)) → Option (ℕ × List ℕ)
+seen r = option_map (λ p. (p.0, p.1.now)) r
 
-abbrev pub end_of : Number → ℕ
-end_of (numbers.Value v at) = at
-end_of numbers.Bad = 0
+abbrev pub read_of : Option (ℕ × List ℕ) → Read
+read_of (Some (v, rest)) = got v rest
+read_of None = bad
 
--- what is read of s; the place behind it is one of s, or its end
-pub record Reads (s : List ℕ) (x : Read) (r : Number) : Type 0 where
-  pub read : read_of s r ≡ x
-  pub within : end_of r ≤ length s
+-- what is read
+abbrev pub Reads : Read → Option (ℕ × List ℕ) → Type 0
+Reads x r = read_of r ≡ x
 
 -- bs stand at `at`, and the answer is the place behind them
 pub record Put (bs : List ℕ) (at : ℕ) (before : List ℕ) (o : ℕ × List ℕ) : Type 0 where

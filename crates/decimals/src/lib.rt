@@ -1,95 +1,59 @@
 // Decimal numbers as text: read from bytes, and put into bytes.
 #![tactic(auto)]
 
-ghost use Rattle.std.specs.Prelude.{◌≡◌, ◌+◌, ◌≤◌, length, drop};
-ghost use Rattle.decimals.specs.Decimal.{decimal, is_digit, follows, number};
-ghost use Rattle.decimals.specs.Places.{Reads, Put};
+ghost use Rattle.std.specs.Prelude.{◌≡◌, ◌-◌, ◌≤◌, cond, length};
+ghost use Rattle.decimals.specs.Decimal.{decimal, is_digit, more, follows, number};
+ghost use Rattle.decimals.specs.Places.{seen, Reads, Put};
 
-// A number, and the place behind it.
-#[derive(Clone, Copy)]
-pub enum Number {
-    Value(u64, usize),
-    Bad,
-}
-
-fn is_digit(d: u8) -> bool
-    ensures { result ≡ is_digit d }
+// What a digit is worth.
+fn digit(d: u8) -> Option<u64>
+    ensures { result ≡ cond (is_digit d) (Some (d - 48)) None }
 {
-    if d < 48 {
-        return false;
+    match d {
+        b'0'..=b'9' => Some(u64::from(d - b'0')),
+        _ => None,
     }
-    d <= 57
 }
 
-// May this byte stand behind the digits of v?
-fn is_next(lim: u64, v: u64, d: u8) -> bool
+// v with the digit d behind it: at most lim, and no number but 0 begins with 0.
+fn with_digit(v: u64, d: u8, lim: u64) -> Option<u64>
+    ensures { result ≡ cond (follows lim v d) (Some (more v d)) None }
+{
+    let x = digit(d)?;
+    let more = v.checked_mul(10)?.checked_add(x)?;
+    (0 < v && more <= lim).then_some(more)
+}
+
+// The number that these bytes begin with, which ends at the byte `end` or with them, and what is left of them.
+// Not std's `parse`: it takes a sign and leading zeros.
+#[tactic(auto, unfolding(crate::specs::Decimal::digits, crate::specs::Decimal::number))]
+pub fn read_decimal(s: &[u8], end: u8, lim: u64) -> Option<(u64, &[u8])>
     requires { 9 ≤ lim }
-    ensures { result ≡ follows lim v d }
+    ensures { Reads (number end lim s.now) (seen result) }
 {
-    if v < 1 {
-        return false;
-    }
-    if !is_digit(d) {
-        return false;
-    }
-    let x = (d - 48) as u64;
-    if (lim - x) / 10 < v {
-        return false;
-    }
-    true
-}
-
-// The number that begins at a place, and ends at the byte `end` or with the bytes.
-pub fn read_decimal(s: &[u8], at: usize, end: u8, lim: u64) -> Number
-    requires { 9 ≤ lim }
-    ensures { Reads s.now (number end lim (drop at s.now)) result }
-{
-    if s.len() <= at {
-        return Number::Bad;
-    }
-    let first = s[at];
-    if !is_digit(first) {
-        return Number::Bad;
-    }
-    let mut v = (first - 48) as u64;
-    let mut i = at + 1;
-    while i < s.len() {
-        let d = s[i];
-        if d == end {
-            return Number::Value(v, i);
+    let (first, mut rest) = s.split_first()?;
+    let mut v = digit(*first)?;
+    while let Some((d, behind)) = rest.split_first() {
+        if *d == end {
+            break;
         }
-        if !is_next(lim, v, d) {
-            return Number::Bad;
-        }
-        v = v * 10 + (d - 48) as u64;
-        i += 1;
+        v = with_digit(v, *d, lim)?;
+        rest = behind;
     }
-    Number::Value(v, i)
+    Some((v, rest))
 }
 
-// Bytes from a place on; the answer is the place behind them.
-pub fn put_bytes(out: &mut [u8], at: usize, s: &[u8]) -> usize
-    requires { at + length s.now ≤ length out.old }
-    ensures { Put s.now at out.old (result, out.new) }
-{
-    let mut i: usize = 0;
-    while i < s.len() {
-        out[at + i] = s[i];
-        i += 1;
-    }
-    at + i
-}
-
-// A number's digits from a place on, the last behind the others. It calls itself for the others, nineteen times at most.
-pub fn put_decimal(out: &mut [u8], at: usize, v: u64) -> usize
-    requires { at + length (decimal v) ≤ length out.old }
-    ensures { Put (decimal v) at out.old (result, out.new) }
+// A number's digits at the front, the last behind the others; how many they are. It calls itself for the others, nineteen times at most.
+// Not std's `Display`: what it prints into fixed memory, an `InlineText`, may by its contract have been cut.
+pub fn put_decimal(out: &mut [u8], v: u64) -> usize
+    requires { length (decimal v) ≤ length out.old }
+    ensures { Put (decimal v) 0 out.old (result, out.new) }
 {
     if v < 10 {
-        out[at] = 48 + v as u8;
-        return at + 1;
+        out[0] = b'0' + v as u8;
+        return 1;
     }
-    let to = put_decimal(out, at, v / 10);
-    out[to] = 48 + (v % 10) as u8;
+    let to = put_decimal(out, v / 10);
+    out[to] = b'0' + (v % 10) as u8;
     to + 1
 }

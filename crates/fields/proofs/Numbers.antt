@@ -1,8 +1,9 @@
 -- What stands where in a list of bytes; a mark, which is two bytes; and a number of any width, written and read back.
 -- A number's last byte is its remainder by 256, and the bytes before it are those of the quotient.
 use Rattle.promises.proofs.Prelude.{◌≡◌, refl, ◌∙◌, ap, List, [], ◌∷◌, ◌++◌, append-nil, append_assoc, ℕ, ◌≤◌, ◌<◌, ◌+◌, suc, zero, ◌^◌, ◌*◌, ◌/◌, ◌%◌}
-use Rattle.promises.proofs.Prelude.{add-zero, add-one, arith, length, drop}
-use Rattle.promises.proofs.Prelude.{set, length-append, drop_of_length-le, take, sets, drop-drop, get_or-take}
+use Rattle.promises.proofs.Prelude.{◌-◌, add-zero, add-one, arith, length, drop}
+use borrow.Rule.Slice.PartMut.{put_mid}
+use Rattle.promises.proofs.Prelude.{set, length-append, take, sets, drop-drop, get_or-take}
 use native.Mathlib.Nat.{add_assoc, add-suc, mul_assoc, pow-suc}
 use lib.Seq.{drop-cons, sets-eq, take-take, take-add, take-append_seam, drop-append_seam, get_or-drop, get_or_at, take-length, set_comm}
 use Rattle.rules.specs.Table.{◌!◌}
@@ -22,6 +23,15 @@ module _ (s : List ℕ) (at : ℕ) (x y : List ℕ) where
   pub stands_both : {next : ℕ} → at + length x ≡ next → Stands s at x → Stands s next y → Stands s at (x ++ y)
   stands_both e h k = cc (take-add (length x) (length y) (drop at s), drop-drop (length x) at s, length-append x y)
 
+-- a byte of a part, and a part that is stored
+pub byte_of_part : (s : List ℕ) (at width i : ℕ) → i < width → take (at + width - at) (drop at s) ! i ≡ s ! (at + i)
+byte_of_part s at width i h = get_or-take (at + width - at) (drop at s) i 0 (omega arith) ∙ get_or-drop at s i 0
+
+pub part_stored : (s : List ℕ) (at width : ℕ) (x : List ℕ) → length x ≡ width → at + width ≤ length s → put_mid at (at + width - at) s x ≡ sets s at x
+part_stored s at width x e h =
+    let n : at + width - at ≡ length x = omega arith in
+    rw (n, sets-eq x s at (omega arith), append_assoc, drop-drop (length x) at s)
+
 -- what stands in a list and is as long is that list
 pub stands_whole : (s x : List ℕ) → length s ≡ length x → Stands s 0 x → x ≡ s
 stands_whole s x e h = cc (take-length s)
@@ -32,6 +42,25 @@ stands_byte s at x i l h = cc (get_or-take (length x) (drop at s) i 0 l, get_or-
 pub length_bytes : (width x : ℕ) → length (bytes width x) ≡ width
 length_bytes zero x = refl
 length_bytes (suc width) x = simp length-append (omega (arith, length_bytes width (x / 256)))
+
+-- the last of a run may be stored first
+pub sets_last : (l xs : List ℕ) (i d : ℕ) → sets (set l (i + length xs) d) i xs ≡ sets l i (xs ++ (d ∷ []))
+sets_last l [] i d = rw add-zero
+sets_last l (x ∷ xs) i d =
+    let next : i + suc (length xs) ≡ suc i + length xs = omega arith in
+    rw (set_comm l (i + suc (length xs)) i d x (omega arith), next) (sets_last (set l i x) xs (suc i) d)
+
+-- one byte more of a number, and of a number that is written from its last byte
+pub number_more : (s : List ℕ) (at i x b : ℕ) → x ≡ number_at s at i → b ≡ s ! (at + i) → x * 256 + b ≡ number_at s at (i + 1)
+number_more s at i x b e h = rw (add-one i, e, h)
+
+pub bytes_stored : (l : List ℕ) (at i x : ℕ) → at < i → sets (set l (i - 1) (x % 256)) at (bytes (i - 1 - at) (x / 256)) ≡ sets l at (bytes (i - at) x)
+bytes_stored l at i x h =
+    let n = i - 1 - at in
+    let is : i - at ≡ suc n = omega arith in
+    let front = bytes n (x / 256) in
+    let place : i - 1 ≡ at + length front = omega (arith, length_bytes n (x / 256)) in
+    rw is (ap (λ (k : ℕ). sets (set l k (x % 256)) at front) place ∙ sets_last l front at (x % 256))
 
 -- a number that was written reads back
 pub number_bytes : (width x : ℕ) (s : List ℕ) (at : ℕ) → x < 256 ^ width → Stands s at (bytes width x) → number_at s at width ≡ x
@@ -94,27 +123,3 @@ module _ (s mark : List ℕ) (at : ℕ) {at₁ at₂ : ℕ} (width v x y : ℕ) 
   two_written byte h m ex ey =
       stands_both s at mark _ e₁ m
       (stands_both s at₁ (bytes width x) _ past (stands_number s byte width at₁ x (omega arith) ex) (stands_number s byte v at₂ y h ey))
-
--- what is stored over a list of its length is all that is left
-pub sets_whole : (l xs : List ℕ) → length l ≡ length xs → sets l 0 xs ≡ xs
-sets_whole l xs e = sets-eq xs l 0 (omega arith) ∙ rw (drop_of_length-le l {i = 0 + length xs} (omega arith), append-nil xs)
-
--- the last of a run may be stored first
-pub sets_last : (l xs : List ℕ) (i d : ℕ) → sets (set l (i + length xs) d) i xs ≡ sets l i (xs ++ (d ∷ []))
-sets_last l [] i d = rw add-zero
-sets_last l (x ∷ xs) i d =
-    let next : i + suc (length xs) ≡ suc i + length xs = omega arith in
-    rw (set_comm l (i + suc (length xs)) i d x (omega arith), next) (sets_last (set l i x) xs (suc i) d)
-
-two : (m : List ℕ) → length m ≡ 2 → m ≡ m ! 0 ∷ m ! 1 ∷ []
-two [] e = absurd (omega arith)
-two (x ∷ []) e = absurd (omega arith)
-two (x ∷ y ∷ []) e = refl
-two (x ∷ y ∷ z ∷ m) e = absurd (omega arith)
-
-pub mark_stored : (l m : List ℕ) (at : ℕ) → length m ≡ 2 → set (set l at (m ! 0)) (at + 1) (m ! 1) ≡ sets l at m
-mark_stored l m at e = rw (two m e, add-one)
-
-pub mark_stands : (s m : List ℕ) (at : ℕ) → length m ≡ 2 → at + 2 ≤ length s → s ! at ≡ m ! 0 → s ! (at + 1) ≡ m ! 1 → Stands s at m
-mark_stands s m at e h first second =
-    rw (two m e, drop-cons s at 0 (omega arith), drop-cons s (suc at) 0 (omega arith), ← add-one at, first, second)

@@ -49,9 +49,6 @@ module _ (f : Form) where
   pub in_first : (m j : ℕ) → out_at f m ≤ in_at f m j
   in_first m j = omega (arith, in_is m j)
 
-  pub in_least : (m j : ℕ) → j ≤ in_at f m j
-  in_least m j = omega (arith, in_is m j)
-
   pub out_small : (i : ℕ) → out_at f i ≤ 10 + 6 * i
   out_small i = omega (arith, out_is i, field_most f, mul-le-mul_right i (field_most f))
 

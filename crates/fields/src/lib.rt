@@ -8,7 +8,7 @@ ghost use Rattle.fields.specs.Numbers.{bytes, number_at, Stands};
 ghost use Rattle.fields.specs.Form.{head_mark, field, mark_length, server_length, out_length, in_length, out_at, in_at};
 
 // The forms of a record.
-#[derive(Clone, Copy)]
+#[derive(Clone, Copy, Debug, PartialEq, Eq)]
 pub enum Form {
     Short,
 }
@@ -19,80 +19,105 @@ pub const MARK: usize = 2;
 pub const SERVER: usize = 4;
 
 // The marks 4F 55 and 49 4E.
-pub const OUT_MARK: [u8; 2] = *b"OU";
+pub const OUT_MARK: [u8; MARK] = *b"OU";
 
-pub const IN_MARK: [u8; 2] = *b"IN";
+pub const IN_MARK: [u8; MARK] = *b"IN";
 
-// The head's mark.
-pub fn head_mark(f: Form) -> [u8; 2]
-    ensures { result ≡ head_mark f }
-{
-    match f {
-        Form::Short => *b"AS",
+impl Form {
+    // The head's mark.
+    pub fn head_mark(self) -> [u8; MARK]
+        ensures { result ≡ head_mark self }
+    {
+        match self {
+            Form::Short => *b"AS",
+        }
+    }
+
+    // The bytes of a, of N and of a seat.
+    pub fn width(self) -> usize
+        ensures { result ≡ field self }
+    {
+        match self {
+            Form::Short => 2,
+        }
+    }
+
+    // Where a record's second field begins, and a removal's record ends.
+    pub fn second(self) -> usize
+        ensures { result ≡ out_length self }
+    {
+        MARK + self.width()
+    }
+
+    // Where the i-th removal's record stands, and after m removals the record of the j-th seat in use.
+    pub fn out_at(self, i: usize) -> usize
+        requires { out_at self i < 2 ^ 64 }
+        ensures { result ≡ out_at self i }
+    {
+        self.second() + self.width() + self.second() * i
+    }
+
+    pub fn in_at(self, m: usize, j: usize) -> usize
+        requires { in_at self m j < 2 ^ 64 }
+        ensures { result ≡ in_at self m j }
+    {
+        self.out_at(m) + (self.second() + SERVER) * j
+    }
+
+    // The first field of the record at `at`: a in the head, else the seat. And the server of a seat in use. Each names a field over the one `put_number` or `number_at`.
+    pub fn put_first(self, out: &mut [u8], at: usize, x: u32)
+        requires { at + out_length self ≤ length out.old }
+        ensures { out.new ≡ sets out.old (at + mark_length) (bytes (field self) x) }
+    {
+        put_number(out, at + MARK, self.width(), x);
+    }
+
+    pub fn put_id(self, out: &mut [u8], at: usize, id: u32)
+        requires { at + in_length self ≤ length out.old }
+        ensures { out.new ≡ sets out.old (at + out_length self) (bytes server_length id) }
+    {
+        put_number(out, at + self.second(), SERVER, id);
+    }
+
+    pub fn first_at(self, s: &[u8], at: usize) -> u32
+        requires { at + out_length self ≤ length s.now }
+        ensures { result ≡ number_at s.now (at + mark_length) (field self) }
+    {
+        number_at(s, at + MARK, self.width())
+    }
+
+    pub fn server_at(self, s: &[u8], at: usize) -> u32
+        requires { at + in_length self ≤ length s.now }
+        ensures { result ≡ number_at s.now (at + out_length self) server_length }
+    {
+        number_at(s, at + self.second(), SERVER)
     }
 }
 
-// The bytes of a, of N and of a seat.
-pub fn width(f: Form) -> usize
-    ensures { result ≡ field f }
-{
-    match f {
-        Form::Short => 2,
-    }
-}
-
-// Where a record's second field begins, and a removal's record ends.
-pub fn second(f: Form) -> usize
-    ensures { result ≡ out_length f }
-{
-    MARK + width(f)
-}
-
-// Where the i-th removal's record stands, and after m removals the record of the j-th seat in use.
-pub fn out_at(f: Form, i: usize) -> usize
-    requires { out_at f i < 2 ^ 64 }
-    ensures { result ≡ out_at f i }
-{
-    second(f) + width(f) + second(f) * i
-}
-
-pub fn in_at(f: Form, m: usize, j: usize) -> usize
-    requires { in_at f m j < 2 ^ 64 }
-    ensures { result ≡ in_at f m j }
-{
-    out_at(f, m) + (second(f) + SERVER) * j
-}
-
-pub fn put_mark(out: &mut [u8], at: usize, mark: &[u8; 2])
-    requires { (at + mark_length ≤ length out.old) × (length mark.now ≡ mark_length) }
+// Here the bytes have a place beside them, and are no part from there on: `number_at` and `Stands` of specs/ and a record's `out_at` and `in_at` are places in the whole.
+pub fn put_mark(out: &mut [u8], at: usize, mark: &[u8; MARK])
+    requires { at + mark_length ≤ length out.old }
     ensures { out.new ≡ sets out.old at mark.now }
 {
-    out[at] = mark[0];
-    out[at + 1] = mark[1];
+    out[at..at + MARK].copy_from_slice(mark);
 }
 
-// Both bytes are compared.
-pub fn has_mark(s: &[u8], at: usize, mark: &[u8; 2]) -> bool
-    requires { (at + mark_length ≤ length s.now) × (length mark.now ≡ mark_length) }
+pub fn has_mark(s: &[u8], at: usize, mark: &[u8; MARK]) -> bool
+    requires { at + mark_length ≤ length s.now }
     ensures { Decides result (Stands s.now at mark.now) }
 {
-    if s[at] != mark[0] {
-        return false;
-    }
-    if s[at + 1] == mark[1] { true } else { false }
+    s[at..].starts_with(mark)
 }
 
-// From the last byte to the first: each is the remainder of what is left.
+// From the last byte to the first: each is the remainder of what is left. (std's bytes are as many as a type has; here the width is a parameter.) By an index: no contract says what `iter_mut().rev()` leaves.
 pub fn put_number(out: &mut [u8], at: usize, width: usize, x: u32)
     requires { at + width ≤ length out.old }
     ensures { out.new ≡ sets out.old at (bytes width x) }
 {
     let mut left = x;
-    let mut i = width;
-    while 0 < i {
-        i -= 1;
-        out[at + i] = (left % 256) as u8;
-        left = left / 256;
+    for i in (at..at + width).rev() {
+        out[i] = (left % 256) as u8;
+        left /= 256;
     }
 }
 
@@ -101,40 +126,8 @@ pub fn number_at(s: &[u8], at: usize, width: usize) -> u32
     ensures { result ≡ number_at s.now at width }
 {
     let mut x: u32 = 0;
-    let mut i: usize = 0;
-    while i < width {
-        let byte = s[at + i] as u32;
-        x = x * 256 + byte;
-        i += 1;
+    for byte in &s[at..at + width] {
+        x = x * 256 + *byte as u32;
     }
     x
-}
-
-// The first field of the record at `at`: a in the head, else the seat. And the server of a seat in use.
-pub fn put_first(out: &mut [u8], f: Form, at: usize, x: u32)
-    requires { at + out_length f ≤ length out.old }
-    ensures { out.new ≡ sets out.old (at + mark_length) (bytes (field f) x) }
-{
-    put_number(out, at + MARK, width(f), x);
-}
-
-pub fn put_id(out: &mut [u8], f: Form, at: usize, id: u32)
-    requires { at + in_length f ≤ length out.old }
-    ensures { out.new ≡ sets out.old (at + out_length f) (bytes server_length id) }
-{
-    put_number(out, at + second(f), SERVER, id);
-}
-
-pub fn first_at(f: Form, s: &[u8], at: usize) -> u32
-    requires { at + out_length f ≤ length s.now }
-    ensures { result ≡ number_at s.now (at + mark_length) (field f) }
-{
-    number_at(s, at + MARK, width(f))
-}
-
-pub fn server_at(f: Form, s: &[u8], at: usize) -> u32
-    requires { at + in_length f ≤ length s.now }
-    ensures { result ≡ number_at s.now (at + out_length f) server_length }
-{
-    number_at(s, at + second(f), SERVER)
 }

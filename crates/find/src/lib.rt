@@ -8,29 +8,25 @@ ghost use Rattle.rules.specs.Answers.{Says};
 ghost use Rattle.find.specs.Find.{lookup_answer, find_call};
 ghost use Rattle.find.specs.Steps.{walk_of, Lookable, Looks};
 
-use parts::{Size, get_s, lend, size_of};
+use parts::{A, K, Run, S, size_of};
 use rules::{Refusal, Seat};
 use splitmix::draw;
 
-// Seat, server, draws and walks; or why not.
-#[derive(Clone, Copy)]
-pub enum Lookup {
-    On(Seat, u32, u32, u32),
-    Refused(Refusal),
+// The seat for a key, its server, how many draws led there, and how often they followed K.
+#[derive(Clone, Copy, Debug, PartialEq, Eq)]
+pub struct Found {
+    pub seat: Seat,
+    pub server: u32,
+    pub draws: u32,
+    pub walks: u32,
 }
 
-// Where a redraw leads, and how often it followed K.
+// The same, before the server is read.
 #[derive(Clone, Copy)]
-enum Redraw {
-    To(Seat, u32),
-    Lost,
-}
-
-// Where all draws lead, how many they are, and how often they followed K.
-#[derive(Clone, Copy)]
-enum Drawn {
-    At(Seat, u32, u32),
-    Damaged,
+struct Drawn {
+    seat: Seat,
+    draws: u32,
+    walks: u32,
 }
 
 fn remainder(x: u64, m: u32) -> u32
@@ -56,31 +52,29 @@ fn pick(key: u64, b: Seat, m: u32) -> Seat
     Seat(remainder(draw(b.0 as u64 + 2, key), m))
 }
 
-// One redraw's walk along K, from a seat to the first whose A is below m. Algorithm 3 goes on where A is m, the paper's prose does not. The seat comes as its
-// number: so the compiler keeps it in a register.
-fn follow(A: &[u32], K: &[u32], m: u32, from: u32) -> Redraw
+// One redraw's walk along K, from a seat to the first whose A is below m, and how often it followed K. Algorithm 3 goes on where A is m, the paper's prose does
+// not. The seat comes as its number: so the compiler keeps it in a register.
+fn follow(A: &[u32], K: &[u32], m: u32, from: u32) -> Option<(Seat, u32)>
     requires { (length K.now ≡ length A.now) × (length A.now ≤ most_seats) }
     ensures { walk_of result ≡ walk A.now K.now m (length A.now) 0 from }
 {
     let a = A.len();
     let mut h = Seat(from);
-    let mut n: u32 = 0;
-    while n <= a as u32 {
+    for n in 0..a as u32 + 1 {
         let i = h.0 as usize;
         if a <= i {
-            return Redraw::Lost;
+            return None;
         }
         if A[i] < m {
-            return Redraw::To(h, n);
+            return Some((h, n));
         }
         h = Seat(K[i]);
-        n += 1;
     }
-    Redraw::Lost
+    None
 }
 
 // All draws, from the first seat on. Who stood there in the line of that time today's W does not know, and the walk does.
-fn look_up(A: &[u32], K: &[u32], key: u64, first: Seat) -> Drawn
+fn look_up(A: &[u32], K: &[u32], key: u64, first: Seat) -> Option<Drawn>
     requires { Lookable A.now K.now first.0 }
     ensures { Looks A.now K.now key first.0 result }
 {
@@ -90,11 +84,13 @@ fn look_up(A: &[u32], K: &[u32], key: u64, first: Seat) -> Drawn
     loop {
         let m = A[b.0 as usize];
         if m == 0 {
-            return Drawn::At(b, draws, walks);
+            return Some(Drawn {
+                seat: b,
+                draws,
+                walks,
+            });
         }
-        let Redraw::To(next, follows) = follow(A, K, m, pick(key, b, m).0) else {
-            return Drawn::Damaged;
-        };
+        let (next, follows) = follow(A, K, m, pick(key, b, m).0)?;
         b = next;
         draws += 1;
         walks += follows;
@@ -102,21 +98,22 @@ fn look_up(A: &[u32], K: &[u32], key: u64, first: Seat) -> Drawn
 }
 
 // The server for a key. It writes nothing, and needs no sound table.
-pub fn find_server(t: &[u32], key: u64) -> Lookup
+pub fn find_server(t: &[u32], key: u64) -> Result<Found, Refusal>
     ensures { Says lookup_answer (find_call t.now key) result }
 {
-    let Size::Is(a) = size_of(t) else {
-        return Lookup::Refused(Refusal::Size);
-    };
-    let first = first_seat(key, a as u32);
-    let Drawn::At(b, draws, walks) = look_up(lend(t, a, parts::A), lend(t, a, parts::K), key, first)
-    else {
-        return Lookup::Refused(Refusal::Damaged);
-    };
-    let server = get_s(t, a, b);
+    let seats = size_of(t).ok_or(Refusal::Size)?;
+    let run = Run { words: t, seats };
+    let first = first_seat(key, seats as u32);
+    let drawn = look_up(run.part::<A>(), run.part::<K>(), key, first).ok_or(Refusal::Damaged)?;
+    let server = run.get::<S>(drawn.seat);
     let vacant = server == 0;
     if vacant {
-        return Lookup::Refused(Refusal::Damaged);
+        return Err(Refusal::Damaged);
     }
-    Lookup::On(b, server, draws, walks)
+    Ok(Found {
+        seat: drawn.seat,
+        server,
+        draws: drawn.draws,
+        walks: drawn.walks,
+    })
 }

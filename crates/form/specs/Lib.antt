@@ -2,3 +2,4 @@
 pub mod Form
 -- What serves the proofs.
 pub mod Tests
+pub mod Heads

@@ -1,53 +1,63 @@
--- Scans of a list of ids, an element at a time: what is found so far, and what the rest still holds.
-use Rattle.promises.proofs.Prelude.{◌≡◌, refl, sym, ◌≢◌, true, false, Bool, not, ◌&&◌, List, ℕ, ◌-◌, ◌≤◌, ◌<◌, ◌+◌, add-zero, add-one, arith, dec_lt, length}
-use Rattle.promises.proofs.Prelude.{drop, drop_of_length-le, eqb, ne_eqb, eq-eqb, eqb-true, below_more}
+-- The library's scans of a list are document 01's.
+use Rattle.std.proofs.lemmas.List.Recursion.{same_from_clauses, is_position_or_len}
+use Rattle.std.proofs.lemmas.Bool.{lt-ltb, le-ltb, ltb-false}
+use Rattle.std.proofs.lemmas.List.Sums.{prefix_len-le-length}
+use Rattle.std.specs.List.{list_any, position_or_len}
+use Rattle.std.specs.Prelude.{Option, Some, None}
+use Rattle.std.specs.Option.{unwrap_or}
+use Rattle.promises.proofs.Prelude.{◌≡◌, refl, sym, suc, ap, ◌∙◌, Bool, true, false, cond, not, ◌&&◌, List, [], ◌∷◌, ℕ, ◌-◌, ◌<◌, ◌≤◌, arith, dec_lt, eqb, length, take, drop}
+use lib.Dec.{ltb}
 use mathlib.Core.Bool.{◌||◌, or_assoc, or-false}
-use lib.Seq.{drop-cons}
-use borrow.Author.Tests.{eqb-false}
+use lib.Seq.{take_all}
 use Rattle.rules.specs.Table.{◌!◌}
 use Rattle.rules.specs.Ids.{occurs, repeats, place_of}
-use Rattle.rules.proofs.Ids.{occurs_at, not_occurs}
 
--- the first i places, and i from `far` on, are looked at
-module _ (l : List ℕ) (id far : ℕ) where
-  abbrev pub Looked : ℕ → Bool → Type 0
-  Looked i true = occurs id l ≡ true
-  Looked i false = (k : ℕ) → k < i → (l ! k ≢ id) × (l ! (far + k) ≢ id)
+pub occurs_any : (id : ℕ) (l : List ℕ) → occurs id l ≡ list_any (λ x. eqb x id) l
+unfolding occurs
+occurs_any id = same_from_clauses (occurs id) (list_any (λ x. eqb x id)) (λ x (b : Bool). eqb x id || b) refl (λ x xs. refl) (λ x xs. refl)
 
-  pub looked_more : (i : ℕ) (hit : Bool) → far + i < length l → Looked i hit → Looked (i + 1) (hit || (eqb (l ! i) id || eqb (l ! (far + i)) id))
-  looked_more i true h o = o
-  looked_more i false h f = go (eqb (l ! i) id) (eqb (l ! (far + i)) id) refl refl
-    where
-      go : (p q : Bool) → eqb (l ! i) id ≡ p → eqb (l ! (far + i)) id ≡ q → Looked (i + 1) (p || q)
-      go true q e d = occurs_at id l i (omega arith) (eqb-true _ _ e)
-      go false true e d = occurs_at id l (far + i) h (eqb-true _ _ d)
-      go false false e d = below_more _ _ f (eqb-false _ _ e, eqb-false _ _ d)
+pub place_position : (id : ℕ) (l : List ℕ) → place_of id l ≡ position_or_len (λ x. eqb x id) l
+unfolding place_of
+place_position id = is_position_or_len (place_of id) (λ x. eqb x id) refl (λ x xs. ap (λ (n : ℕ). cond (eqb x id) 0 n) (omega arith))
 
-  pub looked_all : (i : ℕ) (hit : Bool) → far ≤ i → length l ≤ far + i → Looked i hit → hit ≡ occurs id l
-  looked_all i true h g o = sym o
-  looked_all i false h g f = sym (not_occurs id l (λ k m. elim (dec_lt k i) [
-    | yes a ↦ (f k a).0
-    | no b ↦ let there : far + (k - far) ≡ k = omega arith in rw there at (f (k - far) (omega arith)).1
-  ]))
+-- the place is before the end where the id is among them
+occurs_lt : (id : ℕ) (l : List ℕ) → ltb (place_of id l) (length l) ≡ occurs id l
+unfolding occurs place_of
+occurs_lt id [] = refl
+occurs_lt id (x ∷ l) = go (eqb x id) (occurs_lt id l)
+  where
+    go : (t : Bool) → ltb (place_of id l) (length l) ≡ occurs id l → ltb (cond t 0 (suc (place_of id l))) (suc (length l)) ≡ (t || occurs id l)
+    go true h = lt-ltb _ _ (omega arith)
+    go false h = elim (dec_lt (place_of id l) (length l)) [
+      | yes y ↦ lt-ltb (suc (place_of id l)) _ (omega arith) ∙ (sym (lt-ltb _ _ y) ∙ h)
+      | no n ↦ le-ltb (suc (place_of id l)) _ (omega arith) ∙ (sym (le-ltb _ _ (omega arith)) ∙ h)
+    ]
 
-module _ (l : List ℕ) (i : ℕ) where
-  pub repeats_next : (hit : Bool) → i < length l
-      → (hit || (not (eqb (l ! i) 0) && occurs (l ! i) (drop (i + 1) l))) || repeats (drop (i + 1) l) ≡ (hit || repeats (drop i l))
-  unfolding repeats
-  repeats_next hit h = rw (drop-cons l i 0 h, add-one i) (or_assoc hit _ _)
+pub place_found : (id : ℕ) (l : List ℕ)
+    → cond (ltb (position_or_len (λ x. eqb x id) l) (length l)) (Some (position_or_len (λ x. eqb x id) l)) None ≡ cond (occurs id l) (Some (place_of id l)) None
+place_found id l = rw (← place_position id l, occurs_lt id l) refl
 
-  pub repeats_end : (hit : Bool) → length l ≤ i → hit || repeats (drop i l) ≡ hit
-  unfolding repeats
-  repeats_end hit h = rw (drop_of_length-le l h) (or-false hit)
+-- an id that is nowhere has the length for a place
+pub place_or_length : (id : ℕ) (l : List ℕ) (p : Option ℕ) (n : ℕ) → p ≡ cond (occurs id l) (Some (place_of id l)) None → n ≡ unwrap_or p (length l) → n ≡ place_of id l
+place_or_length id l p n e h = h ∙ go (occurs id l) (occurs_lt id l) e
+  where
+    go : (t : Bool) → ltb (place_of id l) (length l) ≡ t → p ≡ cond t (Some (place_of id l)) None → unwrap_or p (length l) ≡ place_of id l
+    go true f q = rw q refl
+    go false f q =
+        let most : position_or_len (λ x. eqb x id) l ≤ length l = prefix_len-le-length _ l in
+        rw q (omega (arith, place_position id l, most, ltb-false _ _ f))
 
-  pub place_here : (id : ℕ) → i < length l → l ! i ≡ id → i + place_of id (drop i l) ≡ i
-  unfolding place_of
-  place_here id h e = rw (drop-cons l i 0 h, eq-eqb _ _ e) (add-zero i)
+-- one more is looked at: the first of the rest
+pub repeats_more : (hit again : Bool) (rest : List ℕ) → 1 ≤ length rest
+    → again ≡ (not (eqb (rest ! 0) 0) && occurs (rest ! 0) (take (length rest - 1) (drop 1 rest)))
+    → ((hit || again) || repeats (take (length rest - 1) (drop 1 rest))) ≡ (hit || repeats rest)
+unfolding repeats
+repeats_more hit again [] h e = absurd (omega arith)
+repeats_more hit again (x ∷ xs) h e =
+    let all : take (length (x ∷ xs) - 1) xs ≡ xs = take_all (length (x ∷ xs) - 1) xs (omega arith) in
+    rw (e, all) (or_assoc hit _ _)
 
-  pub place_next : (id : ℕ) → i < length l → (l ! i ≡ id → ⊥) → (i + 1) + place_of id (drop (i + 1) l) ≡ i + place_of id (drop i l)
-  unfolding place_of
-  place_next id h ne = rw (drop-cons l i 0 h, ne_eqb _ _ ne, add-one i) (omega arith)
-
-  pub place_end : (id : ℕ) → length l ≤ i → i + place_of id (drop i l) ≡ i
-  unfolding place_of
-  place_end id h = rw (drop_of_length-le l h) (add-zero i)
+pub repeats_none : (hit : Bool) (rest : List ℕ) → length rest < 1 → (hit || repeats rest) ≡ hit
+unfolding repeats
+repeats_none hit [] h = or-false hit
+repeats_none hit (x ∷ xs) h = absurd (omega arith)

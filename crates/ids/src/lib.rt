@@ -1,46 +1,35 @@
 // Lists of ids: whether one is among them, where it stands, and whether one occurs twice.
 #![tactic(auto)]
 
-ghost use Rattle.std.specs.Prelude.{◌≡◌, not, ◌&&◌, eqb};
+ghost use Rattle.std.specs.Prelude.{◌≡◌, cond, not, ◌&&◌, eqb, Some, None};
 ghost use Rattle.rules.specs.Ids.{occurs, repeats, place_of};
 
-// Is the id among them? All are looked at, with no way out of the loop, so that several are compared at once; and by two
-// halves side by side, which share the middle of an odd number, so that a turn of the loop compares twice as many.
+// Is the id among them?
 pub fn occurs_in(l: &[u32], id: u32) -> bool
     ensures { result ≡ occurs id l.now }
 {
-    let far = l.len() / 2;
-    let mut hit = false;
-    let mut i: usize = 0;
-    while i < l.len() - far {
-        hit = hit | ((l[i] == id) | (l[far + i] == id));
-        i += 1;
-    }
-    hit
+    l.contains(&id)
 }
 
-// Where does the id stand first?
+// Where does the id stand first, if it does?
+pub fn find_in(l: &[u32], id: u32) -> Option<usize>
+    ensures { result ≡ cond (occurs id l.now) (Some (place_of id l.now)) None }
+{
+    l.iter().position(|x| *x == id)
+}
+
+// The same on every list: the length, where it is nowhere. It could not fail, and still can't: so it stands beside `find_in`.
 pub fn place_in(l: &[u32], id: u32) -> usize
     ensures { result ≡ place_of id l.now }
 {
-    let mut i: usize = 0;
-    while i < l.len() {
-        if l[i] == id {
-            return i;
-        }
-        i += 1;
-    }
-    i
+    find_in(l, id).unwrap_or(l.len())
 }
 
 // Is this an id, and among the rest again?
 fn again(id: u32, rest: &[u32]) -> bool
     ensures { result ≡ (not (eqb id 0) && occurs id rest.now) }
 {
-    if id == 0 {
-        return false;
-    }
-    occurs_in(rest, id)
+    id != 0 && occurs_in(rest, id)
 }
 
 // Does an id occur twice?
@@ -48,10 +37,10 @@ pub fn repeats_in(l: &[u32]) -> bool
     ensures { result ≡ repeats l.now }
 {
     let mut hit = false;
-    let mut i: usize = 0;
-    while i < l.len() {
-        hit = hit | again(l[i], &l[i + 1..]);
-        i += 1;
+    let mut rest = l;
+    while let [id, others @ ..] = rest {
+        hit |= again(*id, others);
+        rest = others;
     }
     hit
 }

@@ -1,13 +1,13 @@
 -- The ids of a line, one at a time: those read so far, before those of the rest.
-use Rattle.promises.proofs.Prelude.{◌≡◌, refl, sym, inl, inr, true, false, Bool, cond, List, [], ◌∷◌, ◌++◌, append-nil, ℕ, ◌-◌, ◌≤◌, ◌<◌, ◌+◌, suc, zero, ◌*◌}
-use Rattle.promises.proofs.Prelude.{add-one, arith, length, drop, set, length-set, take, length-drop, drop_of_length-le, take-append-drop, length-take-le}
-use Rattle.promises.proofs.Prelude.{drop-drop}
+use Rattle.promises.proofs.Prelude.{◌≡◌, refl, sym, inl, inr, true, false, Bool, cond, List, [], ◌∷◌, ◌++◌, append-nil, ℕ, ◌≤◌, ◌<◌, ◌+◌, suc, zero, ◌*◌}
+use Rattle.promises.proofs.Prelude.{add-one, arith, length, drop, set, length-set, take, take-append-drop, length-take-le}
+use Rattle.promises.proofs.Prelude.{drop-drop, eqb-true}
+use Rattle.std.specs.Prelude.{Some, None, eqb}
 use lib.Seq.{drop-set-lt, take-suc-set, append_snoc}
 use Rattle.decimals.specs.Decimal.{Read, got, bad}
-use Rattle.decimals.proofs.Digits.{byte}
 use Rattle.decimals.proofs.Opposites.{read_cases}
 use Rattle.lines.specs.Lines.{next, most_id, no_ids, before, ids_of, ids_in, ids_behind, with_a, open_line, unknown}
-use Rattle.lines.specs.declared.Line.TheVariants.{Open, Unknown}
+use Rattle.lines.specs.declared.Line.TheVariants.{Open}
 use Rattle.lines.specs.Readings.{IsLine, line_from}
 use Rattle.lines.proofs.Words.{next_got}
 
@@ -23,53 +23,70 @@ ids_of_most (suc m) (suc n) (b ∷ bs) h k = elim (read_cases (next most_id (b �
 ]
 
 -- an id, and the ids behind it
-ids_got : (s : List ℕ) (at id to : ℕ) → at < length s → got id (drop to s) ≡ next most_id (drop at s) → ids_in (drop at s) ≡ before id (ids_in (drop to s))
+ids_got : (bs rest : List ℕ) (id : ℕ) → 0 < length bs → got id rest ≡ next most_id bs → ids_in bs ≡ before id (ids_in rest)
 unfolding ids_of
-ids_got s at id to h e =
-    let g = next_got most_id (drop at s) (omega arith) (sym e) in
-    cc (byte s at h, ids_of_most (length (drop at s)) (suc (length (drop to s))) (drop to s) (omega arith) (omega arith))
+ids_got [] rest id h e = absurd (omega arith)
+ids_got (b ∷ bs) rest id h e =
+    let g = next_got most_id (b ∷ bs) (omega arith) (sym e) in
+    cc (ids_of_most (length (b ∷ bs)) (suc (length rest)) rest (omega arith) (omega arith))
 
--- the first n of the list are the ids from `from` to `at`, and each took two bytes or more
-pub record Listing (s into₀ : List ℕ) (from : ℕ) (into : List ℕ) (at n : ℕ) : Type 0 where
-  pub fits : length s ≤ 2 * length into₀
+broken : (bs : List ℕ) → 0 < length bs → bad ≡ next most_id bs → ids_in bs ≡ no_ids false
+unfolding ids_of
+broken [] h e = absurd (omega arith)
+broken (b ∷ bs) h e = rw (← e)
+
+-- what `is_empty` says
+
+pub empty : (bs : List ℕ) → eqb (length bs) 0 ≡ true → bs ≡ []
+empty [] h = refl
+empty (b ∷ bs) h = absurd (omega (arith, eqb-true (length (b ∷ bs)) 0 h))
+
+pub some_left : (bs : List ℕ) → eqb (length bs) 0 ≡ false → 0 < length bs
+some_left [] h = cc
+some_left (b ∷ bs) h = omega arith
+
+-- the first n of the list are the ids of `all` before `rest`, and each took two bytes or more
+pub record Listing (all into₀ into rest : List ℕ) (n : ℕ) : Type 0 where
   pub long : length into ≡ length into₀
-  pub room : n + n + (length s - at) ≤ length s
+  pub room : 2 * n + length rest ≤ 2 * length into₀
   pub kept : drop n into ≡ drop n into₀
-  pub ids : take n into ++ (ids_in (drop at s)).ids ≡ (ids_in (drop from s)).ids
-  pub whole : (ids_in (drop at s)).whole ≡ (ids_in (drop from s)).whole
+  pub ids : take n into ++ (ids_in rest).ids ≡ (ids_in all).ids
+  pub whole : (ids_in rest).whole ≡ (ids_in all).whole
 
-module _ {s into₀ : List ℕ} {from : ℕ} {into : List ℕ} {at n : ℕ} (l : Listing s into₀ from into at n) where
-  module _ (h : at < length s) where
+pub listing_none : (into all : List ℕ) → length all ≤ 2 * length into → Listing all into into all 0
+listing_none into all h = record { long = refl; room = omega arith; kept = refl; ids = refl; whole = refl }
+
+module _ {all into₀ into rest : List ℕ} {n : ℕ} (l : Listing all into₀ into rest n) where
+  module _ (h : 0 < length rest) where
     pub listing_room : n < length into
     listing_room = omega arith
 
-    pub listing_more : (id to : ℕ) → got id (drop to s) ≡ next most_id (drop at s) → Listing s into₀ from (set into n id) to (n + 1)
-    listing_more id to e =
-        let g = next_got most_id (drop at s) (omega arith) (sym e) in
-        let more = ids_got s at id to h e in
+    pub listing_more : (id : ℕ) (behind : List ℕ) → got id behind ≡ next most_id rest → Listing all into₀ (set into n id) behind (n + 1)
+    listing_more id behind e =
+        let g = next_got most_id rest (omega arith) (sym e) in
+        let more = ids_got rest behind id h e in
         record {
-          fits = l.fits;
           long = simp length-set l.long;
-          room = omega (arith, simp length-drop at g.shorter);
+          room = omega arith;
           kept = rw (drop-set-lt (n + 1) into n id (omega arith), ← drop-drop 1 n into, ← drop-drop 1 n into₀, l.kept);
           ids = rw (add-one, take-suc-set into n id listing_room, append_snoc) (cc);
           whole = cc;
         }
 
   -- the line that it is behind a, if no more ids are read
-  module _ (a : ℕ) {x : Read} (first : got a (drop from s) ≡ x) where
-    listing_line : (whole : Bool) → ids_in (drop at s) ≡ no_ids whole → IsLine (with_a x, (ids_behind x).ids) into₀ (cond whole (Open a n) Unknown, into)
+  module _ (a : ℕ) {x : Read} (first : got a all ≡ x) where
+    listing_line : (whole : Bool) → ids_in rest ≡ no_ids whole → IsLine (with_a x, (ids_behind x).ids) into₀ (cond whole (Some (Open a n)) None, into)
     listing_line whole e =
-        let all : (ids_in (drop from s)).ids ≡ take n into = cc (append-nil (take n into)) in
-        let w : (ids_in (drop from s)).whole ≡ whole = cc in
+        let is : (ids_in all).ids ≡ take n into = cc (append-nil (take n into)) in
+        let w : (ids_in all).whole ≡ whole = cc in
         let long = length-take-le n into (omega arith) in
-        rw (← first, all, w)
-        (record { line = elim whole as (λ w. cond w (Open a n) Unknown ≡ line_from (cond w (open_line a (take n into)) unknown)) [ true ↦ rw long | false ↦ refl ]; stand = rw (long, ← l.kept) (sym (take-append-drop n into)) })
+        rw (← first, is, w)
+        (record { line = elim whole as (λ w. cond w (Some (Open a n)) None ≡ line_from (cond w (open_line a (take n into)) unknown)) [ true ↦ rw long | false ↦ refl ]; stand = rw (long, ← l.kept) (sym (take-append-drop n into)) })
 
-    pub listing_ends : length s ≤ at → IsLine (with_a x, (ids_behind x).ids) into₀ (Open a n, into)
+    pub listing_ends : eqb (length rest) 0 ≡ true → IsLine (with_a x, (ids_behind x).ids) into₀ (Some (Open a n), into)
     unfolding ids_of
-    listing_ends h = listing_line true (rw (drop_of_length-le s h))
+    listing_ends h = listing_line true (rw (empty rest h))
 
-    pub listing_breaks : at < length s → bad ≡ next most_id (drop at s) → IsLine (with_a x, (ids_behind x).ids) into₀ (Unknown, into)
+    pub listing_breaks : 0 < length rest → bad ≡ next most_id rest → IsLine (with_a x, (ids_behind x).ids) into₀ (None, into)
     unfolding ids_of
-    listing_breaks h e = listing_line false (cc (byte s at h))
+    listing_breaks h e = listing_line false (broken rest h e)

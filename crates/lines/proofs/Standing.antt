@@ -1,5 +1,6 @@
 -- How a caller reads what `command` leaves: the ids of an opening stand first in the lent list.
 use Rattle.promises.proofs.Prelude.{◌≡◌, refl, ap, true, false, Bool, List, ℕ, ◌≤◌, arith, length, drop, length-append, take}
+use Rattle.std.specs.Prelude.{Option, Some, None}
 use lib.Seq.{take-append_seam}
 use Rattle.decimals.specs.Decimal.{Read, got, bad}
 use Rattle.lines.specs.Lines.{next, last, given, most_id, most_key, ids_in, ids_behind, opens, with_a, open_word, seat_word, out_word, find_word, Command, open_line, seat_line, out_line, find_line, unknown, command_of}
@@ -9,20 +10,20 @@ use Rattle.lines.specs.Readings.{ids_read, stand_first, line_from, IsLine}
 use Rattle.lines.proofs.Words.{starts_cases}
 
 -- a command, its ids in a lent list
-abbrev pub line_of : List ℕ → Line → Command
-line_of ids (line.Open a n) = open_line a (take n ids)
-line_of ids (line.Seat id) = seat_line id
-line_of ids (line.Out id) = out_line id
-line_of ids (line.Find key) = find_line key
-line_of ids line.Unknown = unknown
+abbrev pub line_of : List ℕ → Option Line → Command
+line_of ids (Some (line.Open a n)) = open_line a (take n ids)
+line_of ids (Some (line.Seat id)) = seat_line id
+line_of ids (Some (line.Out id)) = out_line id
+line_of ids (Some (line.Find key)) = find_line key
+line_of ids None = unknown
 
 -- how many of them
-abbrev pub line_count : Line → ℕ
-line_count (line.Open a n) = n
-line_count (line.Seat id) = 0
-line_count (line.Out id) = 0
-line_count (line.Find key) = 0
-line_count line.Unknown = 0
+abbrev pub line_count : Option Line → ℕ
+line_count (Some (line.Open a n)) = n
+line_count (Some (line.Seat id)) = 0
+line_count (Some (line.Out id)) = 0
+line_count (Some (line.Find key)) = 0
+line_count None = 0
 
 -- the ids of an opening stand first
 abbrev Told : List ℕ → Command → Type 0
@@ -41,7 +42,7 @@ module _ (before : List ℕ) where
   with_a_told bad = (refl, omega arith)
   with_a_told (got a bs) = let i = ids_in bs in opens_told a i.ids i.whole
 
-  pub told : (s after : List ℕ) (r : Line) → IsLine (command_of s, ids_read s) before (r, after) → (line_of after r ≡ command_of s) × (line_count r ≤ length after)
+  pub told : (s after : List ℕ) (r : Option Line) → IsLine (command_of s, ids_read s) before (r, after) → (line_of after r ≡ command_of s) × (line_count r ≤ length after)
   unfolding command_of ids_read
   told s after r is =
       let stood = stand_first (ids_read s) before in

@@ -1,10 +1,18 @@
 -- The word that a line begins with, and a number behind a space.
-use Rattle.promises.proofs.Prelude.{◌≡◌, refl, inl, inr, true, false, cond, List, [], ◌∷◌, ◌++◌, ℕ, ◌≤◌, ◌<◌, ◌+◌, ◌^◌, arith, ℕ_discrete, length, drop}
+use Rattle.promises.proofs.Prelude.{◌≡◌, refl, inl, inr, true, false, cond, List, [], ◌∷◌, ◌++◌, ℕ, ◌≤◌, ◌<◌, ◌+◌, ◌^◌, arith, ℕ_discrete, length, drop, take, ap, ◌&&◌}
 use Rattle.promises.proofs.Prelude.{length-append, eqb, ne_eqb, eq-eqb, eqb-true}
 use Rattle.promises.proofs.Decided.{true_or_false, bool_cases, both}
+use lib.Pointwise.{pointwise}
 use Rattle.decimals.specs.Decimal.{decimal, got}
 use Rattle.decimals.proofs.Opposites.{decimal_some, not_got, theorem as opposites}
 use Rattle.lines.specs.Lines.{space, next, starts}
+
+-- as std compares the front of a slice
+pub starts_pointwise : (word l : List ℕ) → starts word l ≡ pointwise eqb (take (length word) l) word
+unfolding starts
+starts_pointwise [] l = refl
+starts_pointwise (c ∷ w) [] = refl
+starts_pointwise (c ∷ w) (b ∷ l) = ap (λ t. eqb b c && t) (starts_pointwise w l)
 
 pub starts_append : (word l : List ℕ) → starts word l ≡ true → l ≡ word ++ drop (length word) l
 unfolding starts

@@ -1,24 +1,24 @@
 // Lines of the program `seats`: a cursor that reads words and numbers, and the command that a line is.
 #![tactic(auto)]
 
-ghost use Rattle.std.specs.Prelude.{◌≡◌, ◌*◌, ◌≤◌, length, drop};
-ghost use Rattle.lines.specs.Lines.{next, last, most_id, ids_behind, starts, with_a, command_of};
-ghost use Rattle.lines.specs.Readings.{next_of, Last, after_first, ids_read, IsLine};
+ghost use Rattle.std.specs.Prelude.{◌≡◌, ◌*◌, ◌≤◌, length, IfSome};
+ghost use Rattle.lines.specs.Lines.{next, most_id, ids_behind, with_a, command_of};
+ghost use Rattle.lines.specs.Readings.{next_of, alone, after_first, ids_read, IsLine};
 
-use decimals::{Number, read_decimal};
+use decimals::read_decimal;
 
 // It parts words.
-pub const SPACE: u8 = 32;
+pub const SPACE: u8 = b' ';
 
 // The largest id, and a too; the largest key.
-const MOST_ID: u64 = 0xffff_ffff;
+const MOST_ID: u64 = u32::MAX as u64;
 
-const MOST_KEY: u64 = 0xffff_ffff_ffff_ffff;
+const MOST_KEY: u64 = u64::MAX;
 
-// A place in a line.
+// What is left of a line.
 #[derive(Clone, Copy)]
-struct Cursor {
-    at: usize,
+struct Cursor<'a> {
+    rest: &'a [u8],
 }
 
 // The words that a line can begin with.
@@ -30,152 +30,105 @@ enum Word {
     Find,
 }
 
-// A word, and the cursor behind it.
-#[derive(Clone, Copy)]
-enum First {
-    Is(Word, Cursor),
-    Bad,
-}
-
-// A number, and the cursor behind it.
-#[derive(Clone, Copy)]
-enum Next {
-    Is(u64, Cursor),
-    Bad,
-}
-
-// A command; the ids of Open stand in a lent list, and are so many.
-#[derive(Clone, Copy)]
+// A line that is known; the ids of Open stand in a lent list, and are so many.
+#[derive(Clone, Copy, Debug, PartialEq, Eq)]
 pub enum Line {
     Open(u32, usize),
     Seat(u32),
     Out(u32),
     Find(u64),
-    Unknown,
 }
 
-// Does this word stand at a place?
-fn starts_with(s: &[u8], at: usize, word: &[u8]) -> bool
-    ensures { result ≡ starts word.now (drop at s.now) }
-{
-    let mut i: usize = 0;
-    let mut j = at;
-    while i < word.len() {
-        if s.len() <= j {
-            return false;
-        }
-        if s[j] != word[i] {
-            return false;
-        }
-        i += 1;
-        j += 1;
-    }
-    true
-}
-
-impl Cursor {
-    // The word that begins here.
-    fn word(self, s: &[u8]) -> First
-        requires { self.at ≤ length s.now }
-        ensures { after_first s.now result ≡ (command_of (drop self.at s.now), ids_read (drop self.at s.now)) }
+// Each word and each number is taken apart by `let .. else`, as document 01 names the form.
+impl<'a> Cursor<'a> {
+    // The word that begins here, and the cursor behind it. One by one: a table of the words would take a loop with four cases.
+    fn word(self) -> Option<(Word, Cursor<'a>)>
+        ensures read { after_first result ≡ (command_of self.entry.rest.now, ids_read self.entry.rest.now) }
+        ensures within { IfSome result (λ p. length p.1.rest.now ≤ length self.entry.rest.now) }
     {
-        let at = self.at;
-        if starts_with(s, at, b"open") {
-            return First::Is(Word::Open, Cursor { at: at + 4 });
+        if let Some(rest) = self.rest.strip_prefix(b"open") {
+            return Some((Word::Open, Cursor { rest }));
         }
-        if starts_with(s, at, b"seat") {
-            return First::Is(Word::Seat, Cursor { at: at + 4 });
+        if let Some(rest) = self.rest.strip_prefix(b"seat") {
+            return Some((Word::Seat, Cursor { rest }));
         }
-        if starts_with(s, at, b"out") {
-            return First::Is(Word::Out, Cursor { at: at + 3 });
+        if let Some(rest) = self.rest.strip_prefix(b"out") {
+            return Some((Word::Out, Cursor { rest }));
         }
-        if starts_with(s, at, b"find") {
-            return First::Is(Word::Find, Cursor { at: at + 4 });
+        if let Some(rest) = self.rest.strip_prefix(b"find") {
+            return Some((Word::Find, Cursor { rest }));
         }
-        First::Bad
+        None
     }
 
-    // A space, and the number behind it.
-    fn next(self, s: &[u8], lim: u64) -> Next
+    // A space and the number behind it, and the cursor behind that.
+    #[tactic(auto, unfolding(crate::specs::Lines::next))]
+    fn next(self, lim: u64) -> Option<(u64, Cursor<'a>)>
         requires { 9 ≤ lim }
-        ensures { next_of s.now result ≡ next lim (drop self.at s.now) }
+        ensures { next_of result ≡ next lim self.entry.rest.now }
     {
-        let at = self.at;
-        if s.len() <= at {
-            return Next::Bad;
-        }
-        if s[at] != SPACE {
-            return Next::Bad;
-        }
-        let Number::Value(v, to) = read_decimal(s, at + 1, SPACE, lim) else {
-            return Next::Bad;
+        let Some((&SPACE, digits)) = self.rest.split_first() else {
+            return None;
         };
-        Next::Is(v, Cursor { at: to })
+        let Some((v, rest)) = read_decimal(digits, SPACE, lim) else {
+            return None;
+        };
+        Some((v, Cursor { rest }))
     }
 
-    // The next number, with nothing after it.
-    fn last(self, s: &[u8], lim: u64) -> Next
-        requires { 9 ≤ lim }
-        ensures { Last lim (last (next lim (drop self.at s.now))) result }
+    // That of an id, and of a.
+    fn next_id(self) -> Option<(u32, Cursor<'a>)>
+        ensures { next_of result ≡ next most_id self.entry.rest.now }
     {
-        let Next::Is(v, c) = self.next(s, lim) else {
-            return Next::Bad;
+        let Some((id, c)) = self.next(MOST_ID) else {
+            return None;
         };
-        if c.at < s.len() {
-            return Next::Bad;
-        }
-        Next::Is(v, c)
+        Some((id as u32, c))
     }
 }
 
-// A, and the ids from there to the line's end, which go into `into`.
-fn open_line(c: Cursor, s: &[u8], into: &mut [u32]) -> Line
-    requires { length s.now ≤ 2 * length into.old }
-    ensures { IsLine (with_a (next most_id (drop c.at s.now)), (ids_behind (next most_id (drop c.at s.now))).ids) into.old (result, into.new) }
+// A number that nothing follows.
+fn last<N: Copy>(read: Option<(N, Cursor)>) -> Option<N>
+    ensures { result ≡ alone read.entry }
 {
-    let Next::Is(a, c) = c.next(s, MOST_ID) else {
-        return Line::Unknown;
+    let Some((v, c)) = read else {
+        return None;
     };
-    let mut at = c.at;
-    let mut n: usize = 0;
-    while at < s.len() {
-        let Next::Is(id, c) = (Cursor { at }).next(s, MOST_ID) else {
-            return Line::Unknown;
+    if c.rest.is_empty() { Some(v) } else { None }
+}
+
+// A, and the ids from there to the line's end, which go into `into`: the list is lent, so they are counted.
+fn open_line(c: Cursor, into: &mut [u32]) -> Option<Line>
+    requires { length c.rest.now ≤ 2 * length into.old }
+    ensures { IsLine (with_a (next most_id c.entry.rest.now), (ids_behind (next most_id c.entry.rest.now)).ids) into.old (result, into.new) }
+{
+    let Some((a, mut c)) = c.next_id() else {
+        return None;
+    };
+    let mut n = 0;
+    while !c.rest.is_empty() {
+        let Some((id, behind)) = c.next_id() else {
+            return None;
         };
-        into[n] = id as u32;
+        into[n] = id;
         n += 1;
-        at = c.at;
+        c = behind;
     }
-    Line::Open(a as u32, n)
+    Some(Line::Open(a, n))
 }
 
 // The command that a line is. The ids of an opening go into `into`.
-pub fn command(s: &[u8], into: &mut [u32]) -> Line
+pub fn command(s: &[u8], into: &mut [u32]) -> Option<Line>
     requires { length s.now ≤ 2 * length into.old }
     ensures { IsLine (command_of s.now, ids_read s.now) into.old (result, into.new) }
 {
-    let First::Is(word, c) = (Cursor { at: 0 }).word(s) else {
-        return Line::Unknown;
+    let Some((word, c)) = (Cursor { rest: s }).word() else {
+        return None;
     };
     match word {
-        Word::Open => open_line(c, s, into),
-        Word::Seat => {
-            let Next::Is(id, _) = c.last(s, MOST_ID) else {
-                return Line::Unknown;
-            };
-            Line::Seat(id as u32)
-        }
-        Word::Out => {
-            let Next::Is(id, _) = c.last(s, MOST_ID) else {
-                return Line::Unknown;
-            };
-            Line::Out(id as u32)
-        }
-        Word::Find => {
-            let Next::Is(key, _) = c.last(s, MOST_KEY) else {
-                return Line::Unknown;
-            };
-            Line::Find(key)
-        }
+        Word::Open => open_line(c, into),
+        Word::Seat => last(c.next_id()).map(Line::Seat),
+        Word::Out => last(c.next_id()).map(Line::Out),
+        Word::Find => last(c.next(MOST_KEY)).map(Line::Find),
     }
 }

@@ -3,79 +3,89 @@
 
 ghost use Rattle.std.specs.Prelude.{◌≡◌, ◌+◌, ◌-◌, ◌<◌, set};
 ghost use Rattle.rules.specs.Table.{base, words, table_for};
-ghost use Rattle.rules.specs.Runs.{Shape, Legal};
+ghost use Rattle.rules.specs.Runs.{Legal};
+ghost use Rattle.steps.specs.Steps.{Keeps};
 ghost use Rattle.rules.specs.Changes.{take_out, Leaves};
 ghost use Rattle.sound.specs.Test.{Test};
 ghost use Rattle.moves.specs.Moves.{LastSeated};
 
-use parts::{get_l, get_n, get_r, get_w};
+use parts::{A, K, L, R, S, USED, W};
 use rules::{Position, Seat};
-use steps::{give_back, put_a, put_k, put_l, put_r, put_s, put_w, set_n, wipe_r};
+use steps::RunMut;
 
 // The seat b is out of use: R, N and A say so.
-fn retire(t: &mut [u32], a: usize, b: Seat, n: u32)
-    requires { (Shape t.old a) × (b.0 < a) × (n < a) }
-    ensures { t.new ≡ set (set (set t.old (base a 4 + (a - (n + 1))) b.0) 1 n) (base a 0 + b.0) n }
+fn retire(run: &mut RunMut<'_>, b: Seat, n: u32)
+    requires { (b.0 < run.old.seats) × (n < run.old.seats) }
+    ensures words { run.new.words.now ≡ set (set (set run.old.words.now (base run.old.seats 4 + (run.old.seats - (n + 1))) b.0) 1 n) (base run.old.seats 0 + b.0) n }
+    ensures keeps { Keeps run.old run.new }
 {
-    put_r(t, a, a - (n as usize + 1), b);
-    set_n(t, n);
-    put_a(t, a, b, n);
+    let a = run.seats;
+    run.put::<R>(a - (n as usize + 1), b);
+    run.set_used(n);
+    run.put::<A>(b, n);
 }
 
 // The seat that stood last takes the place of b.
-fn close_up(t: &mut [u32], a: usize, b: Seat, last: Seat, position: Position)
-    requires { (Shape t.old a) × (b.0 < a) × (last.0 < a) × (position.0 < a) }
-    ensures { t.new ≡ set (set (set t.old (base a 1 + b.0) last.0) (base a 2 + position.0) last.0) (base a 3 + last.0) position.0 }
+fn close_up(run: &mut RunMut<'_>, b: Seat, last: Seat, position: Position)
+    requires { (b.0 < run.old.seats) × (last.0 < run.old.seats) × (position.0 < run.old.seats) }
+    ensures words { run.new.words.now ≡ set (set (set run.old.words.now (base run.old.seats 1 + b.0) last.0) (base run.old.seats 2 + position.0) last.0) (base run.old.seats 3 + last.0) position.0 }
+    ensures keeps { Keeps run.old run.new }
 {
-    put_k(t, a, b, last);
-    put_w(t, a, position, last);
-    put_l(t, a, last, position);
+    run.put::<K>(b, last);
+    run.put::<W>(position, last);
+    run.put::<L>(last, position);
 }
 
 // Taking out the seat b.
-pub fn take_out_seat(t: &mut [u32], a: usize, b: Seat)
-    requires { (Legal t.old a) × (Test (table_for a t.old).bare) × (Leaves (table_for a t.old).bare b.0) }
-    ensures { t.new ≡ words (take_out (table_for a t.old) b.0) }
+pub fn take_out_seat(run: &mut RunMut<'_>, b: Seat)
+    requires { (Legal run.old.words.now run.old.seats) × (Test (table_for run.old.seats run.old.words.now).bare) × (Leaves (table_for run.old.seats run.old.words.now).bare b.0) }
+    ensures words { run.new.words.now ≡ words (take_out (table_for run.old.seats run.old.words.now) b.0) }
+    ensures keeps { Keeps run.old run.new }
 {
-    let n = get_n(t) - 1;
-    let last = get_w(t, a, Position(n));
-    let position = get_l(t, a, b);
-    retire(t, a, b, n);
-    close_up(t, a, b, last, position);
-    put_s(t, a, b, 0);
+    let n = run.words[USED] - 1;
+    let last = run.get::<W>(Position(n));
+    let position = run.get::<L>(b);
+    retire(run, b, n);
+    close_up(run, b, last, position);
+    run.put::<S>(b, 0);
 }
 
 // The seat b, out of use since the line had n seats, is in use again: R, A and L say so.
-fn restore(t: &mut [u32], a: usize, b: Seat, last: Seat, n: u32)
-    requires { (Shape t.old a) × (b.0 < a) × (last.0 < a) × (n < a) }
-    ensures { t.new ≡ set (set (set t.old (base a 4 + (a - n - 1)) 0) (base a 0 + b.0) 0) (base a 3 + last.0) n }
+fn restore(run: &mut RunMut<'_>, b: Seat, last: Seat, n: u32)
+    requires { (b.0 < run.old.seats) × (last.0 < run.old.seats) × (n < run.old.seats) }
+    ensures words { run.new.words.now ≡ set (set (set run.old.words.now (base run.old.seats 4 + (run.old.seats - n - 1)) 0) (base run.old.seats 0 + b.0) 0) (base run.old.seats 3 + last.0) n }
+    ensures keeps { Keeps run.old run.new }
 {
-    wipe_r(t, a, a - n as usize - 1);
-    put_a(t, a, b, 0);
-    give_back(t, a, last, n);
+    let a = run.seats;
+    run.put::<R>(a - n as usize - 1, Seat(0));
+    run.put::<A>(b, 0);
+    run.give_back(last, n);
 }
 
 // The seat b takes its place again.
-fn open_up(t: &mut [u32], a: usize, b: Seat, position: Position, n: u32)
-    requires { (Shape t.old a) × (b.0 < a) × (position.0 < a) × (n < a) }
-    ensures { t.new ≡ set (set (set t.old (base a 2 + position.0) b.0) (base a 1 + b.0) b.0) 1 (n + 1) }
+fn open_up(run: &mut RunMut<'_>, b: Seat, position: Position, n: u32)
+    requires { (b.0 < run.old.seats) × (position.0 < run.old.seats) × (n < run.old.seats) }
+    ensures words { run.new.words.now ≡ set (set (set run.old.words.now (base run.old.seats 2 + position.0) b.0) (base run.old.seats 1 + b.0) b.0) 1 (n + 1) }
+    ensures keeps { Keeps run.old run.new }
 {
-    put_w(t, a, position, b);
-    put_k(t, a, b, b);
-    set_n(t, n + 1);
+    run.put::<W>(position, b);
+    run.put::<K>(b, b);
+    run.set_used(n + 1);
 }
 
-// Seating an id in the last seat out.
-pub fn seat_last(t: &mut [u32], a: usize, id: u32) -> Seat
-    requires { (Legal t.old a) × (Test (table_for a t.old).bare) × ((table_for a t.old).bare.used < a) }
-    ensures { LastSeated (table_for a t.old) id (result, t.new) }
+// Seating an id in the last seat out. Answers the seat.
+pub fn seat_last(run: &mut RunMut<'_>, id: u32) -> Seat
+    requires { (Legal run.old.words.now run.old.seats) × (Test (table_for run.old.seats run.old.words.now).bare) × ((table_for run.old.seats run.old.words.now).bare.used < run.old.seats) }
+    ensures seated { LastSeated (table_for run.old.seats run.old.words.now) id (result, run.new.words.now) }
+    ensures keeps { Keeps run.old run.new }
 {
-    let n = get_n(t);
-    let b = get_r(t, a, a - n as usize - 1);
-    let last = get_w(t, a, Position(n));
-    restore(t, a, b, last, n);
-    let position = get_l(t, a, b);
-    open_up(t, a, b, position, n);
-    put_s(t, a, b, id);
+    let n = run.words[USED];
+    let a = run.seats;
+    let b = run.get::<R>(a - n as usize - 1);
+    let last = run.get::<W>(Position(n));
+    restore(run, b, last, n);
+    let position = run.get::<L>(b);
+    open_up(run, b, position, n);
+    run.put::<S>(b, id);
     b
 }

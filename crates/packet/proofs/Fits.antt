@@ -1,5 +1,5 @@
 -- What the tests of form tell: the bytes of a packet that keeps the rules hold its header, and the ports where they are wanted.
-use Rattle.promises.proofs.Prelude.{◌≡◌, ◌∙◌, sym, ap, ◌⊎◌, inl, inr, true, false, Bool, ◌&&◌, ℕ, ◌≤◌, ◌<◌, ◌+◌, arith}
+use Rattle.promises.proofs.Prelude.{◌≡◌, ◌⊎◌, inl, inr, true, false, ℕ, ◌≤◌, ◌<◌, ◌+◌, arith}
 use borrow.Author.Tests.{leb-true}
 use Rattle.promises.proofs.Decided.{bool_cases, both}
 use Rattle.packet.specs.declared.Header.{Header}
@@ -26,14 +26,3 @@ fits4_short h n short = elim (bool_cases (fits4 h n)) [
 
 pub ports_room : (h : Header) → wants_ports h ≡ true → ports_fit h ≡ true → h.end + 4 ≤ h.total
 ports_room h wants fits = leb-true _ _ (rw wants at fits)
-
--- of the header as it was read: its bounds, and then its ports
-module _ (fits : Header → Bool) {h read : Header} (e : h ≡ read) where
-  is_read : {t : Bool} → (fits h && ports_fit h) ≡ t → (fits read && ports_fit read) ≡ t
-  is_read f = sym (ap (λ (h : Header). fits h && ports_fit h) e) ∙ f
-
-  pub formed : {t : Bool} → fits h ≡ true → ports_fit h ≡ t → (fits read && ports_fit read) ≡ t
-  formed f g = is_read (rw f g)
-
-  pub unformed : fits h ≡ false → (fits read && ports_fit read) ≡ false
-  unformed f = is_read (rw f)

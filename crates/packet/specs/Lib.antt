@@ -4,5 +4,3 @@ pub mod Key
 pub mod Fragments
 pub mod Counts
 pub mod Worked
--- What serves the proofs.
-pub mod Tells

@@ -1,35 +1,31 @@
 // The key of a packet, from its IP header.
 #![tactic(auto)]
 
-ghost use Rattle.std.specs.Prelude.{◌≡◌, ◌+◌, ◌*◌, ◌^◌, ◌≤◌, length};
+ghost use Rattle.std.specs.Prelude.{◌≡◌, true, ◌+◌, ◌*◌, ◌^◌, ◌≤◌, length, SomeIff};
 ghost use Rattle.std.specs.Int.Bits.{bit_xor};
 ghost use Rattle.splitmix.specs.Generator.{output};
 ghost use Rattle.rules.specs.Answers.{Results};
-ghost use Rattle.fields.specs.Numbers.{bytes, number_at};
-ghost use Rattle.packet.specs.Packet.{header4, header6, wants_ports, fits4, well_formed4, well_formed6, well_formed, words4, words6, words_of};
-ghost use Rattle.packet.specs.Key.{keyed_answer, key_call};
-ghost use Rattle.packet.specs.Tells.{PortsTold, Tells, turned_half, turned, lowest_first};
+ghost use Rattle.fields.specs.Numbers.{number_at};
+ghost use Rattle.packet.specs.Packet.{header4, header6, wants_ports, fits4, fits6, ports_fit, ports, well_formed4, well_formed6, well_formed, words4, words6, words_of};
+ghost use Rattle.packet.specs.Key.{key_of, keyed_answer, key_call};
 
 use fields::number_at;
 use rules::Refusal;
-use splitmix::draw_first;
+use splitmix::draw;
 
-// The bytes of the shortest IPv4 header, of the IPv6 header, of both ports, and of a key.
+// The bytes of the shortest IPv4 header, of the IPv6 header, of both ports, and of a word, as the key is one.
 const LEAST_HEADER: usize = 20;
 
 const HEADER_6: usize = 40;
 
 const PORTS: usize = 4;
 
-const KEY: usize = 8;
+const WORD: usize = 8;
 
 // The protocols that have ports.
 const TCP: u8 = 6;
 
 const UDP: u8 = 17;
-
-// The low half of a word is the remainder by this.
-const HALF: u64 = 0x1_0000_0000;
 
 // What a header says of its packet: where the header ends, where the packet ends, what it carries, and whether it is a fragment.
 #[derive(Clone, Copy)]
@@ -40,202 +36,134 @@ struct Header {
     fragment: bool,
 }
 
-// Both ports as one number, or none: they are wanted, and lie beyond the packet's end.
-#[derive(Clone, Copy)]
-enum Ports {
-    Are(u32),
-    Beyond,
-}
+impl Header {
+    // Of IPv4, or none: the packet breaks its rules. Not one with `of_6`: it has two tests more, and no field stands at the same byte.
+    fn of_4(p: &[u8]) -> Option<Header>
+        ensures { SomeIff result (fits4 (header4 p.now) (length p.now) ≡ true) (header4 p.now) }
+    {
+        if p.len() < LEAST_HEADER {
+            return None;
+        }
+        let end = (p[0] % 16) as usize * 4;
+        let total = number_at(p, 2, 2) as usize;
+        if end < LEAST_HEADER || total < end || p.len() < total {
+            return None;
+        }
+        // Both bytes in one test: `||` makes two jumps of it.
+        let fragment = (p[6] % 64 != 0) | (p[7] != 0);
+        Some(Header {
+            end,
+            total,
+            protocol: p[9],
+            fragment,
+        })
+    }
 
-// A key, or none: the packet breaks the rules.
-#[derive(Clone, Copy)]
-enum Made {
-    Key(u64),
-    Broken,
-}
+    // And of IPv6.
+    fn of_6(p: &[u8]) -> Option<Header>
+        ensures { SomeIff result (fits6 (header6 p.now) (length p.now) ≡ true) (header6 p.now) }
+    {
+        if p.len() < HEADER_6 {
+            return None;
+        }
+        let total = HEADER_6 + number_at(p, 4, 2) as usize;
+        if p.len() < total {
+            return None;
+        }
+        Some(Header {
+            end: HEADER_6,
+            total,
+            protocol: p[6],
+            fragment: false,
+        })
+    }
 
-// The key is written, or why it is not.
-#[derive(Clone, Copy)]
-pub enum Keyed {
-    Written,
-    Refused(Refusal),
-}
+    // By an early return: with `&&` the compiler sets a flag for each test, and saves registers for them.
+    fn wants_ports(self) -> bool
+        ensures { result ≡ wants_ports self }
+    {
+        if self.fragment {
+            return false;
+        }
+        matches!(self.protocol, TCP | UDP)
+    }
 
-fn header_4(p: &[u8]) -> Header
-    requires { 20 ≤ length p.now }
-    ensures { result ≡ header4 p.now }
-{
-    Header {
-        end: (p[0] % 16) as usize * 4,
-        total: number_at(p, 2, 2) as usize,
-        protocol: p[9],
-        fragment: (p[6] % 64 != 0) | (p[7] != 0),
+    // Both ports as one number, 0 where none are wanted; or none: they lie beyond the packet's end.
+    fn ports(self, p: &[u8]) -> Option<u32>
+        requires { (self.end ≤ self.total) × (self.total ≤ length p.now) }
+        ensures { SomeIff result (ports_fit self ≡ true) (ports p.now self) }
+    {
+        if !self.wants_ports() {
+            return Some(0);
+        }
+        if self.total - self.end < PORTS {
+            return None;
+        }
+        Some(number_at(p, self.end, PORTS))
+    }
+
+    // The last word: the protocol and both ports.
+    fn last_word(self, ports: u32) -> u64
+        ensures { result ≡ self.protocol * 2 ^ 32 + ports }
+    {
+        ((self.protocol as u64) << 32) + ports as u64
     }
 }
 
-fn header_6(p: &[u8]) -> Header
-    requires { 40 ≤ length p.now }
-    ensures { result ≡ header6 p.now }
-{
-    Header {
-        end: HEADER_6,
-        total: HEADER_6 + number_at(p, 4, 2) as usize,
-        protocol: p[6],
-        fragment: false,
-    }
-}
-
-fn wants_ports(h: Header) -> bool
-    ensures { result ≡ wants_ports h }
-{
-    if h.fragment {
-        return false;
-    }
-    (h.protocol == TCP) | (h.protocol == UDP)
-}
-
-fn fits_4(h: Header, given: usize) -> bool
-    ensures { result ≡ fits4 h given }
-{
-    (LEAST_HEADER <= h.end) & (h.end <= h.total) & (h.total <= given)
-}
-
-// Eight bytes, read by fours: each four are one load.
 fn word_at(p: &[u8], at: usize) -> u64
     requires { at + 8 ≤ length p.now }
     ensures { result ≡ number_at p.now at 8 }
 {
-    number_at(p, at, 4) as u64 * HALF + number_at(p, at + 4, 4) as u64
-}
-
-// Both ports, or 0 where none are wanted.
-fn ports_of(p: &[u8], h: Header) -> Ports
-    requires { (h.end ≤ h.total) × (h.total ≤ length p.now) }
-    ensures { PortsTold p.now h result }
-{
-    if wants_ports(h) {
-        if h.total - h.end < PORTS {
-            return Ports::Beyond;
-        }
-        return Ports::Are(number_at(p, h.end, PORTS));
-    }
-    Ports::Are(0)
+    u64::from_be_bytes(p[at..at + WORD].try_into().unwrap())
 }
 
 // The key after one more word.
 fn after(key: u64, word: u64) -> u64
     ensures { result ≡ output 1 (bit_xor key word) }
 {
-    draw_first(key ^ word)
+    draw(1, key ^ word)
 }
 
-// And after the last, which is the protocol and both ports.
-fn after_last(key: u64, h: Header, ports: u32) -> u64
-    ensures { result ≡ output 1 (bit_xor key (h.protocol * 2 ^ 32 + ports)) }
+// Two readers, and no trait over the version: the ports and the last word are methods of both, and of address words there are one and four, plainer one by one.
+fn key_4(p: &[u8]) -> Option<u64>
+    ensures { SomeIff result (well_formed4 p.now ≡ true) (key_of (words4 p.now)) }
 {
-    after(key, h.protocol as u64 * HALF + ports as u64)
+    let h = Header::of_4(p)?;
+    let ports = h.ports(p)?;
+    Some(after(after(0, word_at(p, 12)), h.last_word(ports)))
 }
 
-fn key_4(p: &[u8]) -> Made
-    ensures { Tells (well_formed4 p.now) (words4 p.now) result }
+fn key_6(p: &[u8]) -> Option<u64>
+    ensures { SomeIff result (well_formed6 p.now ≡ true) (key_of (words6 p.now)) }
 {
-    if p.len() < LEAST_HEADER {
-        return Made::Broken;
-    }
-    let h = header_4(p);
-    if fits_4(h, p.len()) {
-        let Ports::Are(ports) = ports_of(p, h) else {
-            return Made::Broken;
-        };
-        let key = after(0, word_at(p, 12));
-        return Made::Key(after_last(key, h, ports));
-    }
-    Made::Broken
-}
-
-fn key_6(p: &[u8]) -> Made
-    ensures { Tells (well_formed6 p.now) (words6 p.now) result }
-{
-    if p.len() < HEADER_6 {
-        return Made::Broken;
-    }
-    let h = header_6(p);
-    if p.len() < h.total {
-        return Made::Broken;
-    }
-    let Ports::Are(ports) = ports_of(p, h) else {
-        return Made::Broken;
-    };
+    let h = Header::of_6(p)?;
+    let ports = h.ports(p)?;
     let source = after(after(0, word_at(p, 8)), word_at(p, 16));
     let key = after(after(source, word_at(p, 24)), word_at(p, 32));
-    Made::Key(after_last(key, h, ports))
+    Some(after(key, h.last_word(ports)))
 }
 
-fn key_of(p: &[u8]) -> Made
-    ensures { Tells (well_formed p.now) (words_of p.now) result }
+// The key, or none: the packet breaks the rules.
+#[tactic(auto, unfolding(crate::specs::Packet::well_formed, crate::specs::Packet::words_of))]
+fn key_of(p: &[u8]) -> Option<u64>
+    ensures { SomeIff result (well_formed p.now ≡ true) (key_of (words_of p.now)) }
 {
-    if p.len() == 0 {
-        return Made::Broken;
+    match p.first()? / 16 {
+        4 => key_4(p),
+        6 => key_6(p),
+        _ => None,
     }
-    let version = p[0] / 16;
-    if version == 4 {
-        return key_4(p);
-    }
-    if version == 6 {
-        return key_6(p);
-    }
-    Made::Broken
-}
-
-// The number whose bytes, the lowest first, are x's, the highest first.
-fn turn_half(x: u32) -> u32
-    ensures { result ≡ turned_half x }
-{
-    let second = x / 256;
-    let third = second / 256;
-    ((x % 256 * 256 + second % 256) * 256 + third % 256) * 256 + third / 256 % 256
-}
-
-// By halves, of which the compiler makes one instruction of x86-64.
-fn turn(x: u64) -> u64
-    ensures { result ≡ turned x }
-{
-    let last = turn_half((x % HALF) as u32) as u64;
-    let first = turn_half((x / HALF) as u32) as u64;
-    last * HALF + first
-}
-
-fn put_lowest_first(out: &mut [u8], x: u64)
-    requires { length out.old ≡ 8 }
-    ensures { out.new ≡ lowest_first 8 x }
-{
-    let mut left = x;
-    let mut i: usize = 0;
-    while i < KEY {
-        out[i] = (left % 256) as u8;
-        left = left / 256;
-        i += 1;
-    }
-}
-
-// Eight bytes, the highest first: as the lowest of the turned number they are one store.
-fn put_word(out: &mut [u8], x: u64)
-    requires { length out.old ≡ 8 }
-    ensures { out.new ≡ bytes 8 x }
-{
-    put_lowest_first(out, turn(x));
 }
 
 // The key of a packet, big-endian. Nothing is written before the packet is judged.
-pub fn packet_key(p: &[u8], key: &mut [u8]) -> Keyed
+#[tactic(auto, unfolding(crate::specs::Key::key_call))]
+pub fn packet_key(p: &[u8], key: &mut [u8]) -> Result<(), Refusal>
     ensures { Results keyed_answer (key_call p.now key.old) (result, key.new) }
 {
-    if key.len() != KEY {
-        return Keyed::Refused(Refusal::Room);
+    if key.len() != WORD {
+        return Err(Refusal::Room);
     }
-    let Made::Key(x) = key_of(p) else {
-        return Keyed::Refused(Refusal::Packet);
-    };
-    put_word(key, x);
-    Keyed::Written
+    let x = key_of(p).ok_or(Refusal::Packet)?;
+    key.copy_from_slice(&x.to_be_bytes());
+    Ok(())
 }

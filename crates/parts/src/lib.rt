@@ -1,29 +1,225 @@
 // The parts of a lent run: its shape, and reads in each part, with seats and positions kept apart.
 #![tactic(auto)]
 
-ghost use Rattle.std.specs.Prelude.{◌≡◌, ◌+◌, ◌<◌, ◌≤◌, ◌^◌, length};
-ghost use Rattle.rules.specs.Table.{◌!◌, base, part, table_for};
+ghost use Rattle.std.specs.Prelude.{◌≡◌, refl, List, ℕ, ◌+◌, ◌<◌, ◌≤◌, ◌^◌, length};
+ghost use Rattle.std.proofs.lemmas.Bool.{ltb-true};
+ghost use Rattle.rules.specs.Table.{◌!◌, Table, base, part, part_count, table_for};
 ghost use Rattle.rules.specs.Runs.{Shape};
-ghost use Rattle.parts.specs.Shape.{size_of, Lent, Lends, IsSeat, IsPosition};
+ghost use Rattle.parts.specs.Shape.{size_of, Lends, Spelling, IsWord, number_word, seat_word, position_word};
 
 use rules::{MOST_SEATS, Position, Seat};
 
-// The number of each part, in its order.
-pub const A: usize = 0;
+// What a part is indexed by.
+pub trait Index {
+    ghost place: { Self → ℕ };
 
-pub const K: usize = 1;
+    fn place(self) -> usize
+        ensures { result ≡ place self };
+}
 
-pub const W: usize = 2;
+impl Index for usize {
+    ghost place = { λ i. i };
 
-pub const L: usize = 3;
+    fn place(self) -> usize {
+        self
+    }
+}
 
-pub const R: usize = 4;
+impl Index for Seat {
+    ghost place = { λ b. b.0 };
 
-pub const S: usize = 5;
+    fn place(self) -> usize {
+        self.0 as usize
+    }
+}
+
+impl Index for Position {
+    ghost place = { λ p. p.0 };
+
+    fn place(self) -> usize {
+        self.0 as usize
+    }
+}
+
+// What a part holds.
+pub trait Word {
+    ghost spelling: { Spelling Self };
+
+    fn of(word: u32) -> Self
+        ensures { IsWord spelling word result };
+
+    fn word(self) -> u32
+        ensures { result ≡ spelling.word self };
+}
+
+impl Word for u32 {
+    ghost spelling = { number_word };
+
+    fn of(word: u32) -> u32 {
+        word
+    }
+
+    fn word(self) -> u32 {
+        self
+    }
+}
+
+impl Word for Seat {
+    ghost spelling = { seat_word };
+
+    fn of(word: u32) -> Seat {
+        Seat(word)
+    }
+
+    fn word(self) -> u32 {
+        self.0
+    }
+}
+
+impl Word for Position {
+    ghost spelling = { position_word };
+
+    fn of(word: u32) -> Position {
+        Position(word)
+    }
+
+    fn word(self) -> u32 {
+        self.0
+    }
+}
+
+// A part: its number, which of a table's lists it is, what it is indexed by, and what it holds. From a seat to a position leads L alone, and back W alone.
+pub trait Part {
+    type Index: Index;
+
+    type Item: Word;
+
+    ghost NUMBER: { ℕ };
+
+    ghost within: { NUMBER < part_count };
+
+    ghost list: { Table → List ℕ };
+
+    ghost is_part: { (a : ℕ) (w : List ℕ) → part a NUMBER w ≡ list (table_for a w) };
+
+    const NUMBER: usize;
+}
+
+pub enum A {}
+
+impl Part for A {
+    type Index = Seat;
+
+    type Item = u32;
+
+    ghost NUMBER = { 0 };
+
+    ghost within = { ltb-true 0 part_count refl };
+
+    ghost list = { λ T. T.bare.A };
+
+    ghost is_part = { λ a w. refl };
+
+    const NUMBER: usize = 0;
+}
+
+pub enum K {}
+
+impl Part for K {
+    type Index = Seat;
+
+    type Item = Seat;
+
+    ghost NUMBER = { 1 };
+
+    ghost within = { ltb-true 1 part_count refl };
+
+    ghost list = { λ T. T.bare.K };
+
+    ghost is_part = { λ a w. refl };
+
+    const NUMBER: usize = 1;
+}
+
+pub enum W {}
+
+impl Part for W {
+    type Index = Position;
+
+    type Item = Seat;
+
+    ghost NUMBER = { 2 };
+
+    ghost within = { ltb-true 2 part_count refl };
+
+    ghost list = { λ T. T.bare.W };
+
+    ghost is_part = { λ a w. refl };
+
+    const NUMBER: usize = 2;
+}
+
+pub enum L {}
+
+impl Part for L {
+    type Index = Seat;
+
+    type Item = Position;
+
+    ghost NUMBER = { 3 };
+
+    ghost within = { ltb-true 3 part_count refl };
+
+    ghost list = { λ T. T.bare.L };
+
+    ghost is_part = { λ a w. refl };
+
+    const NUMBER: usize = 3;
+}
+
+pub enum R {}
+
+impl Part for R {
+    type Index = usize;
+
+    type Item = Seat;
+
+    ghost NUMBER = { 4 };
+
+    ghost within = { ltb-true 4 part_count refl };
+
+    ghost list = { λ T. T.bare.R };
+
+    ghost is_part = { λ a w. refl };
+
+    const NUMBER: usize = 4;
+}
+
+pub enum S {}
+
+impl Part for S {
+    type Index = Seat;
+
+    type Item = u32;
+
+    ghost NUMBER = { 5 };
+
+    ghost within = { ltb-true 5 part_count refl };
+
+    ghost list = { λ T. T.S };
+
+    ghost is_part = { λ a w. refl };
+
+    const NUMBER: usize = 5;
+}
 
 pub const PARTS: usize = 6;
 
-// The words before the parts: a and N.
+// The words before the parts, a and N: where they stand, and how many they are.
+pub const SEATS: usize = 0;
+
+pub const USED: usize = 1;
+
 const FRONT: usize = 2;
 
 // The words of the longest run.
@@ -37,31 +233,19 @@ pub fn start(a: usize, k: usize) -> usize
     FRONT + k * a
 }
 
-#[derive(Clone, Copy)]
-pub enum Size {
-    Is(usize),
-    Illegal,
-}
-
 // The seats of a run, where its shape is legal.
-pub fn size_of(t: &[u32]) -> Size
+#[tactic(auto, unfolding(crate::specs::Shape::size_of))]
+pub fn size_of(t: &[u32]) -> Option<usize>
     ensures { result ≡ size_of t.now }
 {
-    if t.len() < FRONT {
-        return Size::Illegal;
+    let [a, _, ..] = t else {
+        return None;
+    };
+    let a = *a as usize;
+    if !(1..=MOST_SEATS).contains(&a) {
+        return None;
     }
-    let a = get_seats(t) as usize;
-    if a < 1 {
-        return Size::Illegal;
-    }
-    if MOST_SEATS < a {
-        return Size::Illegal;
-    }
-    if t.len() == start(a, PARTS) {
-        Size::Is(a)
-    } else {
-        Size::Illegal
-    }
+    (t.len() == start(a, PARTS)).then_some(a)
 }
 
 // Part k, lent.
@@ -73,77 +257,27 @@ pub fn lend(t: &[u32], a: usize, k: usize) -> &[u32]
     &t[lo..lo + a]
 }
 
-// Word i of part k.
-fn word(t: &[u32], a: usize, k: usize, i: usize) -> u32
-    requires { Lent t.now a k i }
-    ensures { result ≡ part a k t.now ! i }
-{
-    let part = lend(t, a, k);
-    part[i]
+// A lent run, and its seats.
+#[derive(Clone, Copy)]
+pub struct Run<'a> {
+    pub words: &'a [u32],
+    pub seats: usize,
+    ghost shape: { Shape words.now seats },
 }
 
-// The part S, whole.
-pub fn servers(t: &[u32], a: usize) -> &[u32]
-    requires { Shape t.now a }
-    ensures { result.now ≡ (table_for a t.now).S }
-{
-    lend(t, a, S)
-}
+impl<'a> Run<'a> {
+    // A part, lent.
+    pub fn part<P: Part>(&self) -> &'a [u32]
+        ensures { Lends self.now.words.now self.now.seats P.NUMBER result.now }
+    {
+        lend(self.words, self.seats, P::NUMBER)
+    }
 
-// The reads.
-pub fn get_a(t: &[u32], a: usize, b: Seat) -> u32
-    requires { (Shape t.now a) × (b.0 < a) }
-    ensures { result ≡ (table_for a t.now).bare.A ! b.0 }
-{
-    word(t, a, A, b.0 as usize)
-}
-
-pub fn get_k(t: &[u32], a: usize, b: Seat) -> Seat
-    requires { (Shape t.now a) × (b.0 < a) }
-    ensures { IsSeat ((table_for a t.now).bare.K ! b.0) result }
-{
-    Seat(word(t, a, K, b.0 as usize))
-}
-
-pub fn get_w(t: &[u32], a: usize, p: Position) -> Seat
-    requires { (Shape t.now a) × (p.0 < a) }
-    ensures { IsSeat ((table_for a t.now).bare.W ! p.0) result }
-{
-    Seat(word(t, a, W, p.0 as usize))
-}
-
-pub fn get_l(t: &[u32], a: usize, b: Seat) -> Position
-    requires { (Shape t.now a) × (b.0 < a) }
-    ensures { IsPosition ((table_for a t.now).bare.L ! b.0) result }
-{
-    Position(word(t, a, L, b.0 as usize))
-}
-
-pub fn get_r(t: &[u32], a: usize, i: usize) -> Seat
-    requires { (Shape t.now a) × (i < a) }
-    ensures { IsSeat ((table_for a t.now).bare.R ! i) result }
-{
-    Seat(word(t, a, R, i))
-}
-
-pub fn get_s(t: &[u32], a: usize, b: Seat) -> u32
-    requires { (Shape t.now a) × (b.0 < a) }
-    ensures { result ≡ (table_for a t.now).S ! b.0 }
-{
-    word(t, a, S, b.0 as usize)
-}
-
-// The words before the parts.
-pub fn get_seats(t: &[u32]) -> u32
-    requires { 0 < length t.now }
-    ensures { result ≡ t.now ! 0 }
-{
-    t[0]
-}
-
-pub fn get_n(t: &[u32]) -> u32
-    requires { 1 < length t.now }
-    ensures { result ≡ t.now ! 1 }
-{
-    t[1]
+    // A word of a part.
+    pub fn get<P: Part>(&self, i: P::Index) -> P::Item
+        requires { P.Index.place i < self.now.seats }
+        ensures { IsWord P.Item.spelling (P.list (table_for self.now.seats self.now.words.now) ! P.Index.place i) result }
+    {
+        P::Item::of(self.part::<P>()[i.place()])
+    }
 }

@@ -1,12 +1,10 @@
 -- What is known once a test has answered.
 use mathlib.Core.Path.{◌≡◌, refl}
-use mathlib.Core.Bool.{Bool, true, false, not, ◌&&◌, ◌||◌}
-use mathlib.Core.Logic.{◌≢◌, ◌⊎◌, inl, inr}
+use mathlib.Core.Bool.{Bool, true, false, ◌&&◌, ◌||◌}
+use mathlib.Core.Logic.{◌⊎◌, inl, inr}
 use Prim.Native.Nat.{ℕ, ◌+◌, ◌<◌}
 use native.Mathlib.Omega.{arith}
 use borrow.Author.Count.{below_more}
-use borrow.Author.Tests.{eqb-true, eqb-false}
-use lib.Dec.{eqb}
 use Rattle.promises.specs.Decides.{Decides, decided}
 
 -- no Bool is both
@@ -48,13 +46,6 @@ decides_both true true f g h a b = f a b
 -- what holds below i, and of i, holds below i + 1
 pub decides_more : (P : ℕ → Type 0) (i : ℕ) (all one : Bool) → Decides all ((k : ℕ) → k < i → P k) → Decides one (P i) → Decides (all && one) ((k : ℕ) → k < i + 1 → P k)
 decides_more P i all one = decides_both all one (below_more P i) (λ f k h. f k (omega arith)) (λ f. f i (omega arith))
-
-pub decides_other : (x y : ℕ) → Decides (not (eqb x y)) (x ≢ y)
-decides_other x y = go (eqb x y) refl
-  where
-    go : (t : Bool) → eqb x y ≡ t → Decides (not t) (x ≢ y)
-    go true e = λ ne. ne (eqb-true x y e)
-    go false e = eqb-false x y e
 
 -- the same of a decision
 pub yes_true : {P : Type 0} (d : Dec P) → P → decided d ≡ true

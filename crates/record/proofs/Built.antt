@@ -7,7 +7,8 @@ use Rattle.rules.proofs.Words.{holds_words, holds_put, table_of_words, length_wo
 use Rattle.sound.specs.Test.{Test}
 use Rattle.sound.specs.Removals.{after}
 use Rattle.sound.proofs.Sound.{sized_parts}
-use Rattle.layout.proofs.Filling.{Filling, filling_begins, filling_more, filling_ends}
+use Rattle.layout.specs.Layout.{Filling}
+use Rattle.layout.proofs.Filling.{filling_more, filled_is}
 use Rattle.fields.specs.declared.Form.{Form}
 use Rattle.fields.specs.Form.{out_length, out_at}
 use Rattle.fields.proofs.Places.{out_within, in_first}
@@ -72,10 +73,10 @@ module _ {f : Form} {s : List ℕ} {a n : ℕ} (g : Good f s a n) where
   -- the run has those of the seats below b
   pub record Served (w : List ℕ) (b : ℕ) : Type 0 where
     pub laid : Laid f s w a m m
-    pub filled : Filling servers laid.S a b
+    pub filled : Filling (λ k x. x ≡ servers ! k) a b laid.S
 
   pub served_none : (w : List ℕ) → Laid f s w a m m → Served w 0
-  served_none w l = record { laid = l; filled = filling_begins l.size }
+  served_none w l = record { laid = l; filled = record { size = l.size; each = λ k h. absurd (omega arith) } }
 
   pub served_next : (w w' : List ℕ) (b : ℕ) → b < a → Served w b → w' ≡ set w (base a 5 + b) (server_of f s m (bare_from f s a m m).A b) → Served w' (b + 1)
   unfolding laid
@@ -84,11 +85,13 @@ module _ {f : Form} {s : List ℕ} {a n : ℕ} (g : Good f s a n) where
       let x = server_of f s m (bare_from f s a m m).A b in
       record {
         laid = laid m (omega arith) w' (set S b x) (length-set S b x ∙ v.laid.size) (holds_put v.laid.holds 5 b x (omega arith) below e).is;
-        filled = filling_more below (sym (listed_at (server_of f s m (bare_from f s a m m).A) a b below)) v.filled;
+        filled = filling_more x below (sym (listed_at (server_of f s m (bare_from f s a m m).A) a b below)) v.filled;
       }
 
   pub served_all : (w : List ℕ) (b : ℕ) → a ≤ b → Served w b → w ≡ words (table_read f s a n)
   unfolding table_read
   served_all w b h v =
       let l = v.laid in
-      l.holds.is ∙ ap (λ (S : List ℕ). words (table_at f s a m m S)) (filling_ends (length_listed (server_of f s m (bare_from f s a m m).A) a) h v.filled)
+      let all : Filling (λ k x. x ≡ servers ! k) a a l.S = record { size = v.filled.size; each = λ k i. v.filled.each k (omega arith) } in
+      let same = filled_is servers (length_listed (server_of f s m (bare_from f s a m m).A) a) (λ k x i e. e) all in
+      l.holds.is ∙ ap (λ (S : List ℕ). words (table_at f s a m m S)) same

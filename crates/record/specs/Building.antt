@@ -1,11 +1,10 @@
 -- What load's steps ask of a run and leave in it, in the words of crate `saved`'s Reader.
-use Rattle.std.specs.Prelude.{◌≡◌, List, ℕ, ◌<◌, ◌≤◌, length}
+use Rattle.std.specs.Prelude.{◌≡◌, List, ℕ, length}
 use Rattle.rules.specs.Table.{Table, table, head, parts, table_for}
 use Rattle.rules.specs.Runs.{Legal, Holds}
 use Rattle.sound.specs.Test.{Test}
 use Rattle.fields.specs.declared.Form.{Form}
-use Rattle.fields.specs.Form.{in_at}
-use Rattle.saved.specs.Reader.{rank, bare_from}
+use Rattle.saved.specs.Reader.{bare_from}
 
 abbrev pub table_at : Form → List ℕ → ℕ → ℕ → ℕ → List ℕ → Table
 table_at f s a m i S = table (bare_from f s a m i) S
@@ -18,10 +17,3 @@ pub record Laid (f : Form) (s w : List ℕ) (a m i : ℕ) : Type 0 where
   pub reads : table_for a w ≡ table_at f s a m i S
   pub legal : Legal w a
   pub test : Test (table_for a w).bare
-
--- seat b is the next to get its server: j of the seats below it are in use, and the records of all that are in use end within the bytes
-pub record Next (f : Form) (s w : List ℕ) (a m b j : ℕ) : Type 0 where
-  pub laid : Laid f s w a m m
-  pub below : b < a
-  pub is_rank : j ≡ rank (bare_from f s a m m).A b
-  pub long : in_at f m (rank (bare_from f s a m m).A a) ≤ length s

@@ -1,24 +1,19 @@
 -- Document 01, 'Numbers a call can answer': saving and loading. Each gives the answer and the lent bytes or words after it, on all inputs.
-use Rattle.std.specs.Prelude.{not, List, [], ◌∷◌, ◌++◌, ℕ, length, drop, ltb, eqb}
+use Rattle.std.specs.Prelude.{not, Result, List, [], ◌∷◌, ◌++◌, ℕ, length, drop, ltb, eqb}
 use Rattle.rules.specs.Table.{Table, words, run_length, table_of}
-use Rattle.rules.specs.Answers.{Answer, fine, refused, Outcome, refused_at, done, ◌⇒◌, first_that}
+use Rattle.rules.specs.Answers.{Answer, result_answer, Outcome, refused_at, done, ◌⇒◌, first_that}
+use Rattle.rules.specs.declared.Refusal.{Refusal}
 use Rattle.rules.specs.declared.Refusal.TheVariants.{Size, Room, Form}
 use Rattle.audit.specs.Audit.{audit_refusals}
 use Rattle.saved.specs.Record.{record_of, IsRecord}
 use Rattle.saved.proofs.Back.{record?}
-use Rattle.record.specs.declared.Saved.{Saved}
-use Rattle.record.specs.declared.Saved.TheVariants as saved
-use Rattle.record.specs.declared.Loaded.{Loaded}
-use Rattle.record.specs.declared.Loaded.TheVariants as loaded
 
 -- the number and the values of each answer
-abbrev pub saved_answer : Saved → Answer
-saved_answer (saved.Bytes n) = fine (n ∷ [])
-saved_answer (saved.Refused r) = refused r
+abbrev pub saved_answer : Result ℕ Refusal → Answer
+saved_answer = result_answer (λ bytes. bytes ∷ [])
 
-abbrev pub loaded_answer : Loaded → Answer
-loaded_answer (loaded.Used n) = fine (n ∷ [])
-loaded_answer (loaded.Refused r) = refused r
+abbrev pub loaded_answer : Result ℕ Refusal → Answer
+loaded_answer = result_answer (λ used. used ∷ [])
 
 -- Saving the run w into the bytes out: only the record's bytes are written
 unfoldable pub save_call : List ℕ → List ℕ → Outcome

@@ -16,3 +16,4 @@ pub mod Occasions
 pub mod Accepts
 pub mod Numbers
 pub mod One
+pub mod Options

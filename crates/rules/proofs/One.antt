@@ -1,9 +1,10 @@
 -- Where answers tell results apart, a promise of answers leaves one outcome.
-use Rattle.promises.proofs.Prelude.{◌≡◌, ◌∙◌, sym, ap, List, [], ◌∷◌, ℕ}
+use Rattle.promises.proofs.Prelude.{◌≡◌, refl, sym, ap, List, [], ◌∷◌, ℕ}
+use Rattle.std.specs.Prelude.{Ok, Err}
 use Rattle.promises.specs.One.{One}
 use Rattle.promises.proofs.One.{one_read}
-use Rattle.rules.specs.Answers.{Answer, fine, refused, Outcome, outcome, Says, Results}
-use Rattle.rules.specs.declared.Refusal.{Refusal}
+use Rattle.rules.specs.Answers.{Answer, result_answer, Outcome, outcome, Says, Results}
+use Rattle.rules.specs.declared.Seat.{Seat}
 use Rattle.rules.proofs.Numbers.{not_fine, refused_injective}
 
 abbrev pub Apart : {R : Type 0} → (R → Answer) → Type 0
@@ -20,21 +21,19 @@ one_results {R} {answer} apart =
     let w = ap (λ (y : Outcome). y.after) e in
     λ i. (r i, w i))
 
--- a result is a value, or a refusal
-pub data OneOf {R : Type 0} (ok : ℕ → R) (no : Refusal → R) : R → Type 0 where
-  is_ok : (v : ℕ) → OneOf ok no (ok v)
-  is_no : (q : Refusal) → OneOf ok no (no q)
+-- where the values tell apart what a call gives
+pub result_apart : {A : Type 0} (values : A → List ℕ) → ((a b : A) → values a ≡ values b → a ≡ b) → Apart (result_answer values)
+result_apart values exact (Ok a) (Ok b) e = ap Ok (exact a b (ap (λ (x : Answer). x.values) e))
+result_apart values exact (Ok a) (Err q) e = not_fine q _ (sym e)
+result_apart values exact (Err p) (Ok b) e = not_fine p _ e
+result_apart values exact (Err p) (Err q) e = ap Err (refused_injective p q e)
 
-module _ {R : Type 0} (answer : R → Answer) (ok : ℕ → R) (no : Refusal → R) (fines : (v : ℕ) → answer (ok v) ≡ fine (v ∷ [])) (noes : (q : Refusal) → answer (no q) ≡ refused q) where
-  same : {r s : R} → OneOf ok no r → OneOf ok no s → answer r ≡ answer s → r ≡ s
-  same (is_ok u) (is_ok v) e =
-      let f = sym (fines u) ∙ e ∙ fines v in
-      let values = ap (λ (x : Answer). x.values) f in
-      let value : u ≡ v = cc in
-      ap ok value
-  same (is_ok u) (is_no q) e = not_fine q _ (sym (noes q) ∙ sym e ∙ fines u)
-  same (is_no p) (is_ok v) e = not_fine p _ (sym (noes p) ∙ e ∙ fines v)
-  same (is_no p) (is_no q) e = ap no (refused_injective p q (sym (noes p) ∙ e ∙ noes q))
+-- as where it gives nothing, and where it gives a number
+pub nothing_told : Apart (result_answer (λ (u : Unit {0}). []))
+nothing_told = result_apart _ (λ u v e. refl)
 
-  pub apart_by : ((r : R) → OneOf ok no r) → Apart answer
-  apart_by cover r s e = same (cover r) (cover s) e
+pub number_told : Apart (result_answer (λ (n : ℕ). n ∷ []))
+number_told = result_apart _ (λ m n e. cc)
+
+pub seat_told : Apart (result_answer (λ (b : Seat). b.0 ∷ []))
+seat_told = result_apart _ (λ b c e. let n : b.0 ≡ c.0 = cc in λ i. record { 0 = n i })

@@ -1,5 +1,5 @@
 -- Document 01, 'Numbers a call can answer', and request 1/13's number.
-use Rattle.std.specs.Prelude.{◌≡◌, Bool, false, cond, List, [], ◌∷◌, ℕ}
+use Rattle.std.specs.Prelude.{◌≡◌, Bool, false, cond, List, [], ◌∷◌, ℕ, Result, Ok, Err}
 use Rattle.rules.specs.declared.Refusal.{Refusal}
 use Rattle.rules.specs.declared.Refusal.TheVariants.{Size, Count, Id, Twice, Damaged, Full, Absent, Last, Room, Form, Packet}
 
@@ -31,6 +31,11 @@ fine vs = record { number = 0; values = vs }
 -- a refusal answers its number with no other value
 abbrev pub refused : Refusal → Answer
 refused r = record { number = number_of r; values = [] }
+
+-- the number and the values of a call's result: `values` are those of what it gives where it is done
+abbrev pub result_answer : {A : Type 0} → (A → List ℕ) → Result A Refusal → Answer
+result_answer values (Ok a) = fine (values a)
+result_answer values (Err r) = refused r
 
 -- what a call leaves: its answer, and the lent words or bytes after it
 pub record Outcome : Type 0 where

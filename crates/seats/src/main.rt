@@ -10,6 +10,7 @@ use transcript::{MOST_INPUT, MOST_OUTPUT};
 fn read_full<R: Read>(reader: &mut R, bytes: &mut [u8]) -> usize
     ensures { IsPrefixLen result bytes.new }
 {
+    // An index: std's `read_to_end` puts into a Vec, and there is no heap.
     let mut done = 0;
     while done < bytes.len() {
         let n = reader.read(&mut bytes[done..]).unwrap_or(0);

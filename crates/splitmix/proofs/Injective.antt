@@ -7,7 +7,7 @@ use lib.Arith.{bin_ind, lt-one}
 use lib.Bits.{bit_xor, xor_shr, xor_mod, xor_zero_r, xor_lt}
 use lib.Pow.{shr_le}
 use Rattle.splitmix.specs.Generator.{mixed, scrambled, output}
-use Rattle.splitmix.proofs.Modular.{mod_mul_mod}
+use Rattle.std.proofs.lemmas.Nat.{mul-mod_first}
 
 -- the numbers of the generator are below it
 abbrev P : ℕ
@@ -57,9 +57,9 @@ module _ (s : ℕ) where
 
 product_back : (c d z : ℕ) → c * d % P ≡ 1 → z < P → z * c % P * d % P ≡ z
 product_back c d z inverse h =
-    mod_mul_mod (z * c) d P
+    mul-mod_first (z * c) d P
     ∙ ap (λ (n : ℕ). n % P) (mul_assoc z c d ∙ mul_comm z (c * d))
-    ∙ sym (mod_mul_mod (c * d) z P)
+    ∙ sym (mul-mod_first (c * d) z P)
     ∙ ap (λ (n : ℕ). n * z % P) inverse
     ∙ ap (λ (n : ℕ). n % P) (one-mul z)
     ∙ mod-eq_of_lt h

@@ -1,3 +1,2 @@
--- Laws that the proofs cite.
-pub mod Modular
+-- Laws that other crates cite.
 pub mod Injective

@@ -4,23 +4,17 @@
 ghost use Rattle.std.specs.Prelude.{◌≡◌, ◌*◌, ◌%◌, ◌^◌, ◌<◌};
 ghost use Rattle.splitmix.specs.Generator.{mixed, scrambled, output};
 
-use std::num::wrapping_add_u64;
-
 // One step of the generator.
 const STEP: u64 = 0x9e3779b97f4a7c15;
 
-// The product modulo 2^64, from halves of 32 bits. The two high halves meet beyond 2^64 and drop out.
+// The product modulo 2^64.
 pub fn product(a: u64, b: u64) -> u64
     ensures { result ≡ a * b % 2 ^ 64 }
 {
-    let a1 = a / 0x1_0000_0000;
-    let a0 = a % 0x1_0000_0000;
-    let b1 = b / 0x1_0000_0000;
-    let b0 = b % 0x1_0000_0000;
-    let cross = wrapping_add_u64(a1 * b0, a0 * b1);
-    wrapping_add_u64(cross << 32, a0 * b0)
+    a.wrapping_mul(b)
 }
 
+#[tactic(auto, unfolding(crate::specs::Generator::mixed))]
 fn mix(z: u64, s: u64, c: u64) -> u64
     requires { s < 64 }
     ensures { result ≡ mixed s c z }
@@ -37,15 +31,9 @@ fn scramble(z: u64) -> u64
 }
 
 // Output n of the generator started at k.
+#[tactic(auto, unfolding(crate::specs::Generator::output))]
 pub fn draw(n: u64, k: u64) -> u64
     ensures { result ≡ output n k }
 {
-    scramble(wrapping_add_u64(k, product(n, STEP)))
-}
-
-// Output 1, which needs no product for its one step.
-pub fn draw_first(k: u64) -> u64
-    ensures { result ≡ output 1 k }
-{
-    scramble(wrapping_add_u64(k, STEP))
+    scramble(k.wrapping_add(product(n, STEP)))
 }

@@ -1,2 +1,2 @@
-pub mod Tell
+pub mod Telling
 pub mod Tight

@@ -1,7 +1,8 @@
 // What C and Rust link: each call answers its number, and its values go out through the last parameters.
 #![tactic(auto)]
 
-ghost use Rattle.std.specs.Prelude.{[], ◌∷◌};
+ghost use Rattle.std.specs.Prelude.{List, [], ◌∷◌, ℕ};
+ghost use Rattle.rules.specs.Answers.{result_answer};
 ghost use Rattle.audit.specs.Audit.{audit_call};
 ghost use Rattle.changes.specs.Calls.{open_call, seat_call, out_call};
 ghost use Rattle.find.specs.Find.{find_call};
@@ -9,50 +10,45 @@ ghost use Rattle.packet.specs.Key.{key_call};
 ghost use Rattle.record.specs.Calls.{save_call, load_call};
 ghost use Rattle.steamacorn.specs.Exports.{without_walks, Told, Changes};
 
-use audit::{Audited, audit_table};
-use changes::{Changed, Opened, open_table, seat_server, take_out};
-use find::{Lookup, find_server};
-use packet::{Keyed, packet_key};
-use record::{Loaded, Saved, load, save};
-use rules::number;
+use audit::audit_table;
+use changes::{open_table, seat_server, take_out};
+use find::find_server;
+use packet::packet_key;
+use record::{load, save};
+use rules::Refusal;
+
+// A call's number; and where it is done, what it gives goes out.
+fn tell<V: Copy>(given: Result<V, Refusal>, out: &mut V) -> u32
+    ensures { (values : V → List ℕ) → Told (result_answer values given) (values out.old) (result, values out.new) }
+{
+    match given {
+        Ok(value) => {
+            *out = value;
+            0
+        }
+        Err(why) => why.into(),
+    }
+}
 
 #[unsafe(no_mangle)]
 pub extern "C" fn steamacorn_open(table: &mut [u32], a: u32, ids: &[u32], n: &mut u32) -> u32
     ensures { Changes (open_call table.old a ids.now) (n.old ∷ []) (result, n.new ∷ [], table.new) }
 {
-    match open_table(table, a, ids) {
-        Opened::Used(used) => {
-            *n = used;
-            0
-        }
-        Opened::Refused(why) => number(why),
-    }
+    tell(open_table(table, a, ids), n)
 }
 
 #[unsafe(no_mangle)]
 pub extern "C" fn steamacorn_seat(table: &mut [u32], id: u32, seat: &mut u32) -> u32
     ensures { Changes (seat_call table.old id) (seat.old ∷ []) (result, seat.new ∷ [], table.new) }
 {
-    match seat_server(table, id) {
-        Changed::At(b) => {
-            *seat = b.0;
-            0
-        }
-        Changed::Refused(why) => number(why),
-    }
+    tell(seat_server(table, id).map(|b| b.0), seat)
 }
 
 #[unsafe(no_mangle)]
 pub extern "C" fn steamacorn_out(table: &mut [u32], id: u32, seat: &mut u32) -> u32
     ensures { Changes (out_call table.old id) (seat.old ∷ []) (result, seat.new ∷ [], table.new) }
 {
-    match take_out(table, id) {
-        Changed::At(b) => {
-            *seat = b.0;
-            0
-        }
-        Changed::Refused(why) => number(why),
-    }
+    tell(take_out(table, id).map(|b| b.0), seat)
 }
 
 #[unsafe(no_mangle)]
@@ -65,15 +61,8 @@ pub extern "C" fn steamacorn_find(
 ) -> u32
     ensures { Told (without_walks (find_call table.now key)) (seat.old ∷ server.old ∷ draws.old ∷ []) (result, seat.new ∷ server.new ∷ draws.new ∷ []) }
 {
-    match find_server(table, key) {
-        Lookup::On(b, id, d, _) => {
-            *seat = b.0;
-            *server = id;
-            *draws = d;
-            0
-        }
-        Lookup::Refused(why) => number(why),
-    }
+    let mut walks = 0;
+    steamacorn_find_walks(table, key, seat, server, draws, &mut walks)
 }
 
 #[unsafe(no_mangle)]
@@ -88,14 +77,14 @@ pub extern "C" fn steamacorn_find_walks(
     ensures { Told (find_call table.now key) (seat.old ∷ server.old ∷ draws.old ∷ walks.old ∷ []) (result, seat.new ∷ server.new ∷ draws.new ∷ walks.new ∷ []) }
 {
     match find_server(table, key) {
-        Lookup::On(b, id, d, f) => {
-            *seat = b.0;
-            *server = id;
-            *draws = d;
-            *walks = f;
+        Ok(found) => {
+            *seat = found.seat.0;
+            *server = found.server;
+            *draws = found.draws;
+            *walks = found.walks;
             0
         }
-        Lookup::Refused(why) => number(why),
+        Err(why) => why.into(),
     }
 }
 
@@ -103,44 +92,26 @@ pub extern "C" fn steamacorn_find_walks(
 pub extern "C" fn steamacorn_audit(table: &[u32]) -> u32
     ensures { Told (audit_call table.now) [] (result, []) }
 {
-    match audit_table(table) {
-        Audited::Sound => 0,
-        Audited::Refused(why) => number(why),
-    }
+    tell(audit_table(table), &mut ())
 }
 
 #[unsafe(no_mangle)]
 pub extern "C" fn steamacorn_save(table: &[u32], record: &mut [u8], bytes: &mut usize) -> u32
     ensures { Changes (save_call table.now «record».old) (bytes.old ∷ []) (result, bytes.new ∷ [], «record».new) }
 {
-    match save(table, record) {
-        Saved::Bytes(written) => {
-            *bytes = written;
-            0
-        }
-        Saved::Refused(why) => number(why),
-    }
+    tell(save(table, record), bytes)
 }
 
 #[unsafe(no_mangle)]
 pub extern "C" fn steamacorn_load(table: &mut [u32], record: &[u8], n: &mut u32) -> u32
     ensures { Changes (load_call table.old «record».now) (n.old ∷ []) (result, n.new ∷ [], table.new) }
 {
-    match load(table, record) {
-        Loaded::Used(used) => {
-            *n = used;
-            0
-        }
-        Loaded::Refused(why) => number(why),
-    }
+    tell(load(table, record), n)
 }
 
 #[unsafe(no_mangle)]
 pub extern "C" fn steamacorn_key(packet: &[u8], key: &mut [u8]) -> u32
     ensures { Changes (key_call packet.now key.old) [] (result, [], key.new) }
 {
-    match packet_key(packet, key) {
-        Keyed::Written => 0,
-        Keyed::Refused(why) => number(why),
-    }
+    tell(packet_key(packet, key), &mut ())
 }

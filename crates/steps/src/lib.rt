@@ -2,10 +2,11 @@
 #![tactic(auto)]
 
 ghost use Rattle.std.specs.Prelude.{◌≡◌, ◌+◌, ◌<◌, length, set};
-ghost use Rattle.rules.specs.Table.{base};
-ghost use Rattle.parts.specs.Shape.{Lent};
+ghost use Rattle.rules.specs.Table.{◌!◌, base, table_for};
+ghost use Rattle.rules.specs.Runs.{Shape};
+ghost use Rattle.parts.specs.Shape.{Lent, IsWord};
 
-use parts::start;
+use parts::{Index, L, Part, Run, USED, Word, start};
 use rules::{Position, Seat};
 
 // The one store: word i of what is lent becomes x.
@@ -16,78 +17,13 @@ fn store(lent: &mut [u32], i: usize, x: u32)
     lent[i] = x;
 }
 
-// The words before the parts.
-pub fn set_seats(t: &mut [u32], a: u32)
-    requires { 0 < length t.old }
-    ensures { t.new ≡ set t.old 0 a }
+// A step: the part is lent to the store. It takes what the part is indexed by, a seat, a position, or the number of an entry of R, and what the part holds.
+pub fn put<P: Part>(t: &mut [u32], a: usize, i: P::Index, x: P::Item)
+    requires { Lent t.old a P.NUMBER (P.Index.place i) }
+    ensures { t.new ≡ set t.old (base a P.NUMBER + P.Index.place i) (P.Item.spelling.word x) }
 {
-    store(t, 0, a);
-}
-
-pub fn set_n(t: &mut [u32], n: u32)
-    requires { 1 < length t.old }
-    ensures { t.new ≡ set t.old 1 n }
-{
-    store(t, 1, n);
-}
-
-// Part k of the run, lent to the store.
-fn put(t: &mut [u32], a: usize, k: usize, i: usize, x: u32)
-    requires { Lent t.old a k i }
-    ensures { t.new ≡ set t.old (base a k + i) x }
-{
-    let lo = start(a, k);
-    store(&mut t[lo..lo + a], i, x);
-}
-
-// The steps, one for each part: each takes what its part is indexed by, a seat, a position, or the number of an entry of R, and what the part holds.
-pub fn put_a(t: &mut [u32], a: usize, b: Seat, x: u32)
-    requires { Lent t.old a 0 b.0 }
-    ensures { t.new ≡ set t.old (base a 0 + b.0) x }
-{
-    put(t, a, parts::A, b.0 as usize, x);
-}
-
-pub fn put_k(t: &mut [u32], a: usize, b: Seat, x: Seat)
-    requires { Lent t.old a 1 b.0 }
-    ensures { t.new ≡ set t.old (base a 1 + b.0) x.0 }
-{
-    put(t, a, parts::K, b.0 as usize, x.0);
-}
-
-pub fn put_w(t: &mut [u32], a: usize, p: Position, x: Seat)
-    requires { Lent t.old a 2 p.0 }
-    ensures { t.new ≡ set t.old (base a 2 + p.0) x.0 }
-{
-    put(t, a, parts::W, p.0 as usize, x.0);
-}
-
-pub fn put_l(t: &mut [u32], a: usize, b: Seat, x: Position)
-    requires { Lent t.old a 3 b.0 }
-    ensures { t.new ≡ set t.old (base a 3 + b.0) x.0 }
-{
-    put(t, a, parts::L, b.0 as usize, x.0);
-}
-
-pub fn put_r(t: &mut [u32], a: usize, i: usize, x: Seat)
-    requires { Lent t.old a 4 i }
-    ensures { t.new ≡ set t.old (base a 4 + i) x.0 }
-{
-    put(t, a, parts::R, i, x.0);
-}
-
-pub fn wipe_r(t: &mut [u32], a: usize, i: usize)
-    requires { Lent t.old a 4 i }
-    ensures { t.new ≡ set t.old (base a 4 + i) 0 }
-{
-    put(t, a, parts::R, i, 0);
-}
-
-pub fn put_s(t: &mut [u32], a: usize, b: Seat, id: u32)
-    requires { Lent t.old a 5 b.0 }
-    ensures { t.new ≡ set t.old (base a 5 + b.0) id }
-{
-    put(t, a, parts::S, b.0 as usize, id);
+    let lo = start(a, P::NUMBER);
+    store(&mut t[lo..lo + a], i.place(), x.word());
 }
 
 // The seat that stands last has its position back: L[W[N]] becomes N.
@@ -95,5 +31,53 @@ pub fn give_back(t: &mut [u32], a: usize, last: Seat, n: u32)
     requires { Lent t.old a 3 last.0 }
     ensures { t.new ≡ set t.old (base a 3 + last.0) n }
 {
-    put_l(t, a, last, Position(n));
+    put::<L>(t, a, last, Position(n));
+}
+
+// A run that is lent for changes, and its seats.
+#[derive(Drop)]
+pub struct RunMut<'a> {
+    pub words: &'a mut [u32],
+    pub seats: usize,
+    ghost shape: { Shape words.now seats },
+}
+
+impl RunMut<'_> {
+    ghost use Rattle.steps.specs.Steps.{Keeps};
+
+    // A word of a part, as of a run that is lent for reading.
+    pub fn get<P: Part>(&self, i: P::Index) -> P::Item
+        requires { P.Index.place i < self.now.seats }
+        ensures { IsWord P.Item.spelling (P.list (table_for self.now.seats self.now.words.now) ! P.Index.place i) result }
+    {
+        let run = Run {
+            words: self.words,
+            seats: self.seats,
+        };
+        run.get::<P>(i)
+    }
+
+    // Word 1 becomes n.
+    pub fn set_used(&mut self, n: u32)
+        ensures words { self.new.words.now ≡ set self.old.words.now 1 n }
+        ensures keeps { Keeps self.old self.new }
+    {
+        self.words[USED] = n;
+    }
+
+    pub fn put<P: Part>(&mut self, i: P::Index, x: P::Item)
+        requires { P.Index.place i < self.old.seats }
+        ensures words { self.new.words.now ≡ set self.old.words.now (base self.old.seats P.NUMBER + P.Index.place i) (P.Item.spelling.word x) }
+        ensures keeps { Keeps self.old self.new }
+    {
+        put::<P>(self.words, self.seats, i, x);
+    }
+
+    pub fn give_back(&mut self, last: Seat, n: u32)
+        requires { last.0 < self.old.seats }
+        ensures words { self.new.words.now ≡ set self.old.words.now (base self.old.seats 3 + last.0) n }
+        ensures keeps { Keeps self.old self.new }
+    {
+        give_back(self.words, self.seats, last, n);
+    }
 }

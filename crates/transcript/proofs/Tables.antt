@@ -1,5 +1,5 @@
 -- A call on the first of the lent words, told of the table that they are.
-use Rattle.promises.proofs.Prelude.{◌≡◌, refl, ap, true, false, List, [], ◌∷◌, ◌++◌, ℕ, ◌≤◌, ◌<◌, ◌*◌, arith, length, drop, length-append, take, take_at, eqb}
+use Rattle.promises.proofs.Prelude.{◌≡◌, refl, ap, true, false, Bool, List, [], ◌∷◌, ◌++◌, ℕ, ◌≤◌, ◌<◌, ◌*◌, arith, length, drop, take_at, eqb}
 use Rattle.promises.proofs.Prelude.{ne_eqb, le-ltb, lt-ltb}
 use Prim.Native.Nat.{max}
 use Rattle.rules.specs.Table.{words, most_seats}
@@ -14,18 +14,29 @@ use Rattle.changes.proofs.Told.{opens, open_occasions, open_size}
 use Rattle.lines.specs.Lines.{Command, command_of}
 use Rattle.lines.proofs.KnownLines.{least, line_least}
 use Rattle.transcript.specs.Transcript.{reopened, respond}
-use Rattle.transcript.specs.Replies.{byte_room, line_room, Short, After}
-use Rattle.transcript.specs.declared.Answered.{Answered}
+use Rattle.transcript.specs.Replies.{Reply, byte_room, line_room}
+use Rattle.transcript.specs.Tables.{table_in, Short, After}
+use Rattle.std.specs.Prelude.{Ok, Err, IsErr, IsErrAnd}
+use Rattle.transcript.specs.declared.Table.{Table}
+use Rattle.transcript.specs.declared.LineRefusal.TheVariants as errors
+
+-- what `?` hands on of a refusal
+pub refused_reply : (r : Reply) (why : Refusal) → IsErr r × IsErrAnd r (λ e. e ≡ errors.Refused why) → r ≡ Err (errors.Refused why)
+refused_reply (Ok v) why h = let apart : ◌≡◌ {A = Bool} false true = h.0 in cc
+refused_reply (Err e) why h = ap (λ e. Err e) h.1
+
+pub short_as : {x : Answer} {most : ℕ} {r q : Reply} → r ≡ q → Short x most q → Short x most r
+short_as e h = rw e h
 
 -- such a reply, and the words as they were
-pub after_none : (t : List ℕ) {x : Answer} (r : Answered) {o : Outcome} {most : ℕ} → r.len ≤ length t → Short x most r.reply
-    → outcome x (take r.len t) ≡ o → After o most r t
-after_none t r h e f = rw (← f) (record { reply = e; words = refl; within = h })
+pub after_none : (s : Table) (w : List ℕ) {x : Answer} {r : Reply} {o : Outcome} {most : ℕ} → table_in s ≡ w → Short x most r
+    → outcome x w ≡ o → After o most r s
+after_none s w e h f = rw (← f) (record { reply = h; words = e })
 
 -- and those that the call left
-pub after_call : (t w : List ℕ) {x : Answer} (r : Answered) {o : Outcome} {most : ℕ} → length w ≡ r.len → Short x most r.reply
-    → outcome x w ≡ o → After o most r (w ++ drop r.len t)
-after_call t w r kept e f = after_none _ r (simp length-append (omega arith)) e (rw (take_at w (drop r.len t) r.len kept) f)
+pub after_call : (s : Table) (w t : List ℕ) {x : Answer} {r : Reply} {o : Outcome} {most : ℕ} → length w ≡ s.len → s.words.now ≡ w ++ drop s.len t → Short x most r
+    → outcome x w ≡ o → After o most r s
+after_call s w t kept all e f = after_none s w (rw (all, take_at w (drop s.len t) s.len kept)) e f
 
 -- a refusal's number is none of an answer that is fine
 pub number_test : (r : Refusal) → eqb (number_of r) 0 ≡ false
@@ -60,8 +71,8 @@ pub reopens_many : (v w : List ℕ) (a : ℕ) (ids : List ℕ) → most_seats < 
 reopens_many v w a ids h = refused_reopens v a ids w w Size (open_size w a ids (later (le-ltb a 1 (omega arith)) (here (lt-ltb most_seats a h))))
 
 -- the answer to a line, by its command: a known line is long enough for its answer
-pub respond_as : (w line : List ℕ) (cmd : Command) {most : ℕ} {r : Answered} {t : List ℕ} → cmd ≡ command_of line → most ≤ byte_room * max 1 (least cmd)
-    → After (respond w cmd) most r t → After (respond w (command_of line)) (line_room line) r t
+pub respond_as : (w line : List ℕ) (cmd : Command) {most : ℕ} {r : Reply} {s : Table} → cmd ≡ command_of line → most ≤ byte_room * max 1 (least cmd)
+    → After (respond w cmd) most r s → After (respond w (command_of line)) (line_room line) r s
 respond_as w line cmd e h a =
     let long = rw (← e) at (line_least line) in
-    rw (← e) (record { reply = record { answer = a.reply.answer; short = omega arith }; words = a.words; within = a.within })
+    rw (← e) (record { reply = record { answer = a.reply.answer; short = omega arith }; words = a.words })

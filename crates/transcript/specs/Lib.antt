@@ -4,3 +4,4 @@ pub mod Transcript
 pub mod Written
 -- What serves the proofs.
 pub mod Replies
+pub mod Tables

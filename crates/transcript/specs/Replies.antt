@@ -1,19 +1,30 @@
--- What the program's own enum means, how much room its steps take, and what they leave.
-use Rattle.std.specs.Prelude.{◌≡◌, List, [], ◌∷◌, ◌≢◌, ℕ, ◌+◌, ◌*◌, ◌<◌, ◌≤◌, max, length, take}
-use Rattle.rules.specs.Table.{◌!◌, run_length, most_seats}
-use Rattle.rules.specs.Answers.{Answer, fine, refused, Outcome}
+-- What the program's replies mean, how much room they take, and what is left of the output and of the input.
+use Rattle.std.specs.Prelude.{◌≡◌, List, [], ◌∷◌, ℕ, ◌+◌, ◌*◌, ◌≤◌, max, length, Option, Result, Ok, Err, eqb}
+use Rattle.std.specs.List.{position}
+use Rattle.rules.specs.Answers.{Answer, fine, refused}
 use Rattle.decimals.specs.Places.{Put}
+use Rattle.find.specs.Find.{lookup_answer}
 use Rattle.transcript.specs.Printing.{printed}
 use Rattle.transcript.specs.Transcript.{line_refused}
-use Rattle.transcript.specs.declared.Reply.{Reply}
-use Rattle.transcript.specs.declared.Reply.TheVariants as reply
-use Rattle.transcript.specs.declared.Answered.{Answered}
+use Rattle.transcript.specs.declared.Values.{Values}
+use Rattle.transcript.specs.declared.Values.TheVariants as values
+use Rattle.transcript.specs.declared.LineRefusal.{LineRefusal}
+use Rattle.transcript.specs.declared.LineRefusal.TheVariants as errors
+use Rattle.transcript.specs.declared.Output.{Output}
+use Rattle.transcript.specs.declared.Lines.{Lines}
+use Rattle.lines.specs.Lines.{lines_of}
+
+abbrev pub Reply : Type 0
+Reply = Result Values LineRefusal
 
 abbrev pub reply_answer : Reply → Answer
-reply_answer (reply.One v) = fine (v ∷ [])
-reply_answer (reply.Four v w x y) = fine (v ∷ w ∷ x ∷ y ∷ [])
-reply_answer (reply.No r) = refused r
-reply_answer reply.Unknown = line_refused
+reply_answer (Ok (values.One v)) = fine (v ∷ [])
+reply_answer (Ok (values.Found f)) = lookup_answer (Ok f)
+reply_answer (Err (errors.Refused r)) = refused r
+reply_answer (Err errors.Unknown) = line_refused
+
+abbrev pub number_of_line_refusal : LineRefusal → ℕ
+number_of_line_refusal why = (reply_answer (Err why)).number
 
 -- the bytes of a number of 32 bits behind a space, at the most: ten digits
 abbrev pub value_most : ℕ
@@ -38,40 +49,25 @@ line_room line = byte_room * max 1 (length line)
 
 -- the bytes that a reply takes, at the most
 abbrev pub reply_most : Reply → ℕ
-reply_most (reply.One v) = line_most 1
-reply_most (reply.Four v w x y) = line_most 4
-reply_most (reply.No r) = line_most 1
-reply_most reply.Unknown = unknown_most
+reply_most (Ok (values.One v)) = line_most 1
+reply_most (Ok (values.Found f)) = line_most 4
+reply_most (Err (errors.Refused r)) = line_most 1
+reply_most (Err errors.Unknown) = unknown_most
+
+-- text is put behind what is written
+pub record Adds (text : List ℕ) (before after : Output) : Type 0 where
+  pub put : Put text before.len before.bytes.now (after.len, after.bytes.now)
+  pub same : after.bytes.ghost_name ≡ before.bytes.ghost_name
 
 -- a reply's line is put
-pub record Puts (r : Reply) (at : ℕ) (before : List ℕ) (o : ℕ × List ℕ) : Type 0 where
-  pub put : Put (printed (reply_answer r)) at before o
-  pub short : o.0 ≤ at + reply_most r
+pub record Puts (r : Reply) (before after : Output) : Type 0 where
+  pub adds : Adds (printed (reply_answer r)) before after
+  pub short : after.len ≤ before.len + reply_most r
 
--- an answer that takes so many bytes at the most
-pub record Short (x : Answer) (most : ℕ) (r : Reply) : Type 0 where
-  pub answer : reply_answer r ≡ x
-  pub short : reply_most r ≤ most
+-- the place of the first LF
+abbrev pub first_end : List ℕ → Option ℕ
+first_end input = position (λ b. eqb b 10) input
 
--- the words of the table are the first `len` of the lent ones
-abbrev pub table_in : ℕ → List ℕ → List ℕ
-table_in len t = take len t
-
--- such an answer, and the table after it
-pub record After (o : Outcome) (most : ℕ) (r : Answered) (t : List ℕ) : Type 0 where
-  pub reply : Short o.answer most r.reply
-  pub words : table_in r.len t ≡ o.after
-  pub within : r.len ≤ length t
-
--- the line that begins at `at` ends at r
-pub record Ends (s : List ℕ) (at r : ℕ) : Type 0 where
-  pub behind : at ≤ r
-  pub within : r ≤ length s
-  pub none : (k : ℕ) → k < r → at ≤ k → s ! k ≢ 10
-  pub is_end : r < length s → s ! r ≡ 10
-
--- room for the input's lines: a table, a list of ids, and the output
-pub record Lent (input t ids out : List ℕ) : Type 0 where
-  pub table : length t ≡ run_length most_seats
-  pub list : length input ≤ 2 * length ids
-  pub room : byte_room * length input ≤ length out
+-- the lines that are left
+abbrev pub lines_left : Lines → List (List ℕ)
+lines_left s = lines_of s.0.now

@@ -3,23 +3,24 @@
 
 ghost use Rattle.std.specs.Prelude.{◌≡◌, [], ◌∷◌, ◌+◌, ◌*◌, ◌≤◌, ◌<◌, length, replicate};
 ghost use Rattle.std.specs.Counts.{IsPrefixLen};
-ghost use Rattle.rules.specs.Table.{run_length, most_seats};
+ghost use Rattle.std.specs.Iterator.{YieldsFirstRef, item_count};
+ghost use Rattle.parts.specs.declared.TheConstants.{MOST_WORDS};
 ghost use Rattle.decimals.specs.Decimal.{decimal};
-ghost use Rattle.decimals.specs.Places.{Put};
+ghost use Rattle.rules.specs.Table.{run_length};
+ghost use Rattle.changes.specs.Calls.{open_call, seat_call, out_call};
 ghost use Rattle.lines.specs.Lines.{space, spaced, lines_of, command_of};
-ghost use Rattle.changes.specs.Calls.{changed_answer, open_call, seat_call, out_call};
-ghost use Rattle.find.specs.Find.{lookup_answer};
 ghost use Rattle.transcript.specs.Printing.{said};
 ghost use Rattle.transcript.specs.Transcript.{reopened, looked, respond, replies, transcript};
-ghost use Rattle.transcript.specs.Replies.{line_most, line_room, reply_most, Puts, Short, table_in, After, Ends, Lent};
+ghost use Rattle.transcript.specs.Replies.{line_most, line_room, byte_room, reply_most, number_of_line_refusal, Adds, Puts, first_end, lines_left};
 ghost use Rattle.transcript.specs.Written.{Written};
+ghost use Rattle.transcript.specs.declared.LineRefusal.TheVariants.{Refused};
 
-use changes::{Changed, Opened, open_table, seat_server, take_out};
-use decimals::{put_bytes, put_decimal};
-use find::{Lookup, find_server};
+use changes::{open_table, seat_server, take_out};
+use decimals::put_decimal;
+use find::{Found, find_server};
 use lines::{Line, SPACE, command};
 use parts::{MOST_WORDS, PARTS, start};
-use rules::{MOST_SEATS, Refusal, number};
+use rules::{MOST_SEATS, Refusal};
 
 // The bytes of the longest input, and its ids, each with a space before it.
 pub const MOST_INPUT: usize = 4096;
@@ -34,190 +35,210 @@ pub const MOST_OUTPUT: usize = BYTE_ROOM * MOST_INPUT;
 // The program does not know the line.
 const LINE: u32 = 11;
 
-// What a line is answered.
+// It ends a line.
+const LF: u8 = b'\n';
+
+// What stands behind `ok`: a number, or what a lookup found.
 #[derive(Clone, Copy)]
-enum Reply {
+enum Values {
     One(u32),
-    Four(u32, u32, u32, u32),
-    No(Refusal),
+    Found(Found),
+}
+
+// Why a line is answered `no`.
+#[derive(Clone, Copy)]
+enum LineRefusal {
+    Refused(Refusal),
     Unknown,
 }
 
-fn put_value(out: &mut [u8], at: usize, v: u32) -> usize
-    requires { at + length (space ∷ decimal v) ≤ length out.old }
-    ensures { Put (space ∷ decimal v) at out.old (result, out.new) }
-{
-    out[at] = SPACE;
-    put_decimal(out, at + 1, v as u64)
-}
+impl From<Refusal> for LineRefusal {
+    ghost from_gives = { λ why r. r ≡ Refused why };
 
-fn put_end(out: &mut [u8], at: usize) -> usize
-    requires { at < length out.old }
-    ensures { Put (10 ∷ []) at out.old (result, out.new) }
-{
-    out[at] = 10;
-    at + 1
-}
-
-// Numbers, each behind a space.
-fn put_values(out: &mut [u8], at: usize, values: &[u32]) -> usize
-    requires { at + length (spaced values.now) ≤ length out.old }
-    ensures { Put (spaced values.now) at out.old (result, out.new) }
-{
-    let mut to = at;
-    let mut i: usize = 0;
-    while i < values.len() {
-        to = put_value(out, to, values[i]);
-        i += 1;
-    }
-    to
-}
-
-// A word, numbers, and LF.
-fn put_line(out: &mut [u8], at: usize, word: &[u8], values: &[u32]) -> usize
-    requires { at + length (said word.now values.now) ≤ length out.old }
-    ensures { Put (said word.now values.now) at out.old (result, out.new) }
-{
-    let to = put_bytes(out, at, word);
-    let to = put_values(out, to, values);
-    put_end(out, to)
-}
-
-// The line that an answer prints.
-fn put_reply(out: &mut [u8], at: usize, reply: Reply) -> usize
-    requires { at + reply_most reply ≤ length out.old }
-    ensures { Puts reply at out.old (result, out.new) }
-{
-    match reply {
-        Reply::One(v) => put_line(out, at, b"ok", &[v]),
-        Reply::Four(v, w, x, y) => put_line(out, at, b"ok", &[v, w, x, y]),
-        Reply::No(why) => put_line(out, at, b"no", &[number(why)]),
-        Reply::Unknown => put_line(out, at, b"no", &[LINE]),
+    fn from(why: Refusal) -> LineRefusal {
+        LineRefusal::Refused(why)
     }
 }
 
-// A line's answer, and how many of the lent words are the table after it.
-#[derive(Clone, Copy)]
-struct Answered {
-    reply: Reply,
+impl From<LineRefusal> for u32 {
+    ghost from_gives = { λ why n. n ≡ number_of_line_refusal why };
+
+    fn from(why: LineRefusal) -> u32 {
+        match why {
+            LineRefusal::Refused(why) => why.into(),
+            LineRefusal::Unknown => LINE,
+        }
+    }
+}
+
+// The output, and how many of its bytes are written.
+#[derive(Drop)]
+struct Output<'a> {
+    bytes: &'a mut [u8],
     len: usize,
 }
 
-fn changed(c: Changed) -> Reply
-    ensures { Short (changed_answer c) (line_most 1) result }
-{
-    match c {
-        Changed::At(b) => Reply::One(b.0),
-        Changed::Refused(why) => Reply::No(why),
+impl Output<'_> {
+    fn put(&mut self, s: &[u8])
+        requires { self.old.len + length s.now ≤ length self.old.bytes.now }
+        ensures { Adds s.now self.old self.new }
+    {
+        let to = self.len + s.len();
+        self.bytes[self.len..to].copy_from_slice(s);
+        self.len = to;
     }
-}
 
-fn found(l: Lookup) -> Reply
-    ensures { Short (lookup_answer l) (line_most 4) result }
-{
-    match l {
-        Lookup::On(b, server, draws, walks) => Reply::Four(b.0, server, draws, walks),
-        Lookup::Refused(why) => Reply::No(why),
+    // A number behind a space.
+    fn put_value(&mut self, v: u32)
+        requires { self.old.len + length (space ∷ decimal v) ≤ length self.old.bytes.now }
+        ensures { Adds (space ∷ decimal v) self.old self.new }
+    {
+        self.put(&[SPACE]);
+        self.len += put_decimal(&mut self.bytes[self.len..], u64::from(v));
     }
-}
 
-// Opening in the first words of the lent ones; a refused open keeps the old table.
-fn reopen(t: &mut [u32], len: usize, a: u32, ids: &[u32]) -> Answered
-    requires { (length t.old ≡ run_length most_seats) × (len ≤ length t.old) }
-    ensures { After (reopened (table_in len t.old) (open_call (replicate (run_length a) 0) a ids.now)) (line_most 1) result t.new }
-{
-    if MOST_SEATS < a as usize {
-        return Answered {
-            reply: Reply::No(Refusal::Size),
-            len,
-        };
-    }
-    let n = start(a as usize, PARTS);
-    match open_table(&mut t[..n], a, ids) {
-        Opened::Used(used) => Answered {
-            reply: Reply::One(used),
-            len: n,
-        },
-        Opened::Refused(why) => Answered {
-            reply: Reply::No(why),
-            len,
-        },
-    }
-}
-
-fn seat_in(t: &mut [u32], len: usize, id: u32) -> Answered
-    requires { len ≤ length t.old }
-    ensures { After (seat_call (table_in len t.old) id) (line_most 1) result t.new }
-{
-    let reply = changed(seat_server(&mut t[..len], id));
-    Answered { reply, len }
-}
-
-fn out_in(t: &mut [u32], len: usize, id: u32) -> Answered
-    requires { len ≤ length t.old }
-    ensures { After (out_call (table_in len t.old) id) (line_most 1) result t.new }
-{
-    let reply = changed(take_out(&mut t[..len], id));
-    Answered { reply, len }
-}
-
-fn find_in(t: &[u32], len: usize, key: u64) -> Answered
-    requires { len ≤ length t.now }
-    ensures { After (looked (table_in len t.now) key) (line_most 4) result t.now }
-{
-    let reply = found(find_server(&t[..len], key));
-    Answered { reply, len }
-}
-
-// The answer to a line.
-fn answer_line(line: &[u8], t: &mut [u32], len: usize, ids: &mut [u32]) -> Answered
-    requires { (length line.now ≤ 2 * length ids.old) × (length t.old ≡ run_length most_seats) × (len ≤ length t.old) }
-    ensures { After (respond (table_in len t.old) (command_of line.now)) (line_room line.now) result t.new }
-{
-    match command(line, ids) {
-        Line::Open(a, n) => reopen(t, len, a, &ids[..n]),
-        Line::Seat(id) => seat_in(t, len, id),
-        Line::Out(id) => out_in(t, len, id),
-        Line::Find(key) => find_in(t, len, key),
-        Line::Unknown => Answered {
-            reply: Reply::Unknown,
-            len,
-        },
-    }
-}
-
-// Where the line that begins at a place ends: at LF, or at the input's end.
-fn line_end(s: &[u8], at: usize) -> usize
-    requires { at ≤ length s.now }
-    ensures { Ends s.now at result }
-{
-    let mut i = at;
-    while i < s.len() {
-        if s[i] == 10 {
-            return i;
+    // Numbers, each behind a space.
+    fn put_values(&mut self, values: &[u32])
+        requires { self.old.len + length (spaced values.now) ≤ length self.old.bytes.now }
+        ensures { Adds (spaced values.now) self.old self.new }
+    {
+        for v in values {
+            self.put_value(*v);
         }
-        i += 1;
     }
-    i
+
+    // A word, numbers, and LF.
+    fn put_line(&mut self, word: &[u8], values: &[u32])
+        requires { self.old.len + length (said word.now values.now) ≤ length self.old.bytes.now }
+        ensures { Adds (said word.now values.now) self.old self.new }
+    {
+        self.put(word);
+        self.put_values(values);
+        self.put(&[LF]);
+    }
+
+    // The line that an answer prints.
+    fn put_reply(&mut self, reply: Result<Values, LineRefusal>)
+        requires { self.old.len + reply_most reply ≤ length self.old.bytes.now }
+        ensures { Puts reply self.old self.new }
+    {
+        match reply {
+            Ok(Values::One(v)) => self.put_line(b"ok", &[v]),
+            Ok(Values::Found(f)) => self.put_line(b"ok", &[f.seat.0, f.server, f.draws, f.walks]),
+            Err(why) => self.put_line(b"no", &[u32::from(why)]),
+        }
+    }
+
+    // The answers to an input's lines. The table begins empty.
+    fn put_replies(&mut self, input: &[u8])
+        requires short { length input.now ≤ 2 * MOST_IDS }
+        requires room { self.old.len + byte_room * length input.now ≤ length self.old.bytes.now }
+        ensures { Adds (replies [] (lines_of input.now)) self.old self.new }
+    {
+        let mut words = [0; MOST_WORDS];
+        let mut table = Table {
+            words: &mut words,
+            len: 0,
+        };
+        let mut ids = [0; MOST_IDS];
+        for line in Lines(input) {
+            self.put_reply(table.answer(line, &mut ids));
+        }
+    }
 }
 
-// Line by line. The table begins empty.
-fn run_lines(input: &[u8], t: &mut [u32], ids: &mut [u32], out: &mut [u8]) -> usize
-    requires { Lent input.now t.old ids.old out.old }
-    ensures { Written (replies [] (lines_of input.now)) out.old (result, out.new) }
-{
-    let mut len: usize = 0;
-    let mut at: usize = 0;
-    let mut i: usize = 0;
-    while i < input.len() {
-        let end = line_end(input, i);
-        let a = answer_line(&input[i..end], t, len, ids);
-        let reply = a.reply;
-        len = a.len;
-        at = put_reply(out, at, reply);
-        i = end + 1;
+// The lines of an input.
+#[derive(Drop)]
+struct Lines<'a>(&'a [u8]);
+
+impl<'a> Iterator for Lines<'a> {
+    type Item = &'a [u8];
+
+    ghost next_gives = { YieldsFirstRef lines_left };
+
+    ghost remaining = { item_count lines_left };
+
+    fn next(&mut self) -> Option<&'a [u8]> {
+        let input = self.0;
+        if input.is_empty() {
+            return None;
+        }
+        let Some(end) = line_end(input) else {
+            self.0 = &[];
+            return Some(input);
+        };
+        self.0 = &input[end + 1..];
+        Some(&input[..end])
     }
-    at
+}
+
+// Where the first line ends, if at an LF.
+fn line_end(input: &[u8]) -> Option<usize>
+    ensures { result ≡ first_end input.now }
+{
+    input.iter().position(|b| *b == LF)
+}
+
+// The lent words, of which the first `len` are the table that the lines before left.
+#[derive(Drop)]
+struct Table<'a> {
+    words: &'a mut [u32],
+    len: usize,
+    ghost whole: { length words.now ≡ MOST_WORDS },
+    ghost within: { len ≤ MOST_WORDS },
+}
+
+impl Table<'_> {
+    ghost use Rattle.transcript.specs.Tables.{After, table_in};
+
+    // The answer to a line, whose ids go into a lent list.
+    fn answer(&mut self, line: &[u8], ids: &mut [u32]) -> Result<Values, LineRefusal>
+        requires { length line.now ≤ 2 * length ids.old }
+        ensures { After (respond (table_in self.old) (command_of line.now)) (line_room line.now) result self.new }
+    {
+        match command(line, ids) {
+            Some(Line::Open(a, n)) => self.open(a, &ids[..n]),
+            Some(Line::Seat(id)) => self.seat(id),
+            Some(Line::Out(id)) => self.out(id),
+            Some(Line::Find(key)) => self.find(key),
+            None => Err(LineRefusal::Unknown),
+        }
+    }
+
+    // Opening in the first words; a refused open keeps the old table.
+    fn open(&mut self, a: u32, ids: &[u32]) -> Result<Values, LineRefusal>
+        ensures { After (reopened (table_in self.old) (open_call (replicate (run_length a) 0) a ids.now)) (line_most 1) result self.new }
+    {
+        if MOST_SEATS < a as usize {
+            return Err(LineRefusal::Refused(Refusal::Size));
+        }
+        let len = start(a as usize, PARTS);
+        let used = open_table(&mut self.words[..len], a, ids)?;
+        self.len = len;
+        Ok(Values::One(used))
+    }
+
+    // Beside `out`, and not one with it: with the call as a parameter the promise would be of any call, and each caller would prove which.
+    fn seat(&mut self, id: u32) -> Result<Values, LineRefusal>
+        ensures { After (seat_call (table_in self.old) id) (line_most 1) result self.new }
+    {
+        let b = seat_server(&mut self.words[..self.len], id)?;
+        Ok(Values::One(b.0))
+    }
+
+    fn out(&mut self, id: u32) -> Result<Values, LineRefusal>
+        ensures { After (out_call (table_in self.old) id) (line_most 1) result self.new }
+    {
+        let b = take_out(&mut self.words[..self.len], id)?;
+        Ok(Values::One(b.0))
+    }
+
+    fn find(&self, key: u64) -> Result<Values, LineRefusal>
+        ensures { After (looked (table_in self.now) key) (line_most 4) result self.now }
+    {
+        let found = find_server(&self.words[..self.len], key)?;
+        Ok(Values::Found(found))
+    }
 }
 
 // From the input's bytes to the output's, and how many those are.
@@ -225,10 +246,12 @@ pub fn run(input: &[u8], out: &mut [u8; MOST_OUTPUT]) -> usize
     ensures written { Written (transcript input.now) out.old (result, out.new) }
     ensures prefix_len { IsPrefixLen result out.new }
 {
-    if MOST_INPUT < input.len() {
-        return put_reply(out, 0, Reply::No(Refusal::Room));
+    let mut output = Output { bytes: out, len: 0 };
+    let is_long = MOST_INPUT < input.len();
+    if is_long {
+        output.put_reply(Err(LineRefusal::Refused(Refusal::Room)));
+    } else {
+        output.put_replies(input);
     }
-    let mut t = [0u32; MOST_WORDS];
-    let mut ids = [0u32; MOST_IDS];
-    run_lines(input, &mut t, &mut ids, out)
+    output.len
 }

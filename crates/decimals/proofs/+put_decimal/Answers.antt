@@ -8,8 +8,8 @@ use Rattle.decimals.proofs.+put_decimal.Goals as goal
 longer : (v : ℕ) → 9 < v → v < 10 ^ 20 → length (decimal v) ≡ length (decimal (v / 10)) + 1
 longer v p h = ap length (decimal_last v p h) ∙ length-append (decimal (v / 10)) ((48 + v % 10) ∷ [])
 
-pub bounds-out-at : goal.bounds-out-at
-bounds-out-at t c = omega (arith, ap length (decimal_digit c.args.v (omega arith)))
+pub bounds-out-0 : goal.bounds-out-0
+bounds-out-0 t c = omega (arith, ap length (decimal_digit c.args.v (omega arith)))
 
 pub returns-then-v-lt10 : goal.returns-then-v-lt10
 returns-then-v-lt10 t c =

@@ -1,12 +1,13 @@
--- `fields::put_number` meets its contract. The loop's invariant: the first i bytes of what is left are still to be stored.
-use Rattle.promises.proofs.Prelude.{◌≡◌, ◌-◌, suc, ◌/◌, ◌%◌, arith, rules}
-use Rattle.fields.specs.Numbers.{bytes}
-use Rattle.fields.proofs.Numbers.{length_bytes, sets_last}
+-- `fields::put_number` meets its contract: the last of the bytes that are left is stored first.
+use Rattle.promises.proofs.Prelude.{◌≡◌, ◌∙◌, ◌-◌, ◌+◌, arith}
+use Rattle.fields.proofs.Numbers.{bytes_stored}
 use Rattle.fields.proofs.put_number.Goals as goal
 
+pub loop-i-init : goal.loop-i-init
+loop-i-init c = let n : c.args.at + c.args.width - c.args.at ≡ c.args.width = omega arith in rw n
+
 pub loop-i-preserved : goal.loop-i-preserved
-loop-i-preserved c =
-    let n = c.loop-i.i - 1 in
-    let front = bytes n (c.loop-i.left / 256) in
-    let is : suc n ≡ c.loop-i.i = omega arith in
-    (search rules, search rules, cc (sets_last c.loop-i.out front c.args.at (c.loop-i.left % 256), length_bytes n (c.loop-i.left / 256)))
+loop-i-preserved c = bytes_stored c.loop-i.out c.args.at c.loop-i.i c.loop-i.left (omega arith) ∙ c.loop-i.invariant
+
+pub returns : goal.returns
+returns c = let none : c.loop-i.i - c.args.at ≡ 0 = omega arith in rw none at c.loop-i.invariant

@@ -1,62 +1,70 @@
 -- `find::find_server` meets its contract: A and K are lent as the parts that the array rule reads, and its tests are those of `find` in their order.
-use Rattle.promises.proofs.Prelude.{◌≡◌, ◌∙◌, sym, true, arith, ne_eqb}
+use Rattle.std.specs.Prelude.{Option, Some, None}
+use Rattle.std.proofs.lemmas.Result.{err_from_is_err_and}
+use Rattle.promises.proofs.Prelude.{◌≡◌, List, ℕ, arith, ne_eqb}
 use native.Mathlib.Nat.{mod-lt}
 use Rattle.splitmix.specs.Generator.{output}
-use Rattle.rules.specs.Table.{table_for, legal}
-use Rattle.rules.specs.Runs.{Legal}
+use Rattle.rules.specs.Table.{part, table_for}
+use Rattle.rules.specs.Keys.{first_of}
+use Rattle.rules.specs.declared.Refusal.TheVariants.{Size, Damaged}
+use Rattle.parts.specs.Shape.{size_of}
 use Rattle.parts.proofs.Sized.{illegal, told_seats}
 use Rattle.find.specs.declared.Drawn.{Drawn}
-use Rattle.find.specs.Steps.{looked_of}
+use Rattle.find.specs.Steps.{looked_of, Looks}
 use Rattle.find.specs.Find.{served, find_call}
 use Rattle.find.proofs.find_server.Goals as goal
-use Rattle.find.proofs.find_server.Goals.{After-look_up, In-Is}
-
--- the run is for a seats
-told : (c : In-Is) → let w = c.args.t.now in (legal w ≡ true) × Legal w c.in-Is.a
-told c = told_seats _ _ (sym c.size_of.ensures ∙ c.in-Is.is)
 
 -- what the draws lead to
-led : (f : After-look_up) (r : Drawn) → f.look_up.result ≡ r →
-    let s = f.args in
-    find_call s.t.now s.key ≡ served (table_for f.in-Is.a s.t.now).S (looked_of r)
+led : (w : List ℕ) {A K : List ℕ} {a key first : ℕ} {r : Option Drawn} → size_of w ≡ Some a → A ≡ part a 0 w → K ≡ part a 1 w → first ≡ first_of key a → Looks A K key first r
+    → served (table_for a w).S (looked_of r) ≡ find_call w key
 unfolding find_call
-led f r e =
-    let t = told_seats _ _ (sym f.size_of.ensures ∙ f.in-Is.is) in
-    rw (t.0, t.1.first, ← e, f.look_up.ensures.rule, f.lend.ensures.0, f.lend-2.ensures.0, f.first_seat-first.ensures)
+led w {a = a} size isA isK is_first l = let t = told_seats w a size in rw (t.0, t.1.first, l.rule, isA, isK, is_first)
 
-pub returns-in_default : goal.returns-in_default
+pub returns-in_err-seats : goal.returns-in_err-seats
 unfolding find_call
-returns-in_default c = rw (illegal _ (sym c.size_of.ensures ∙ c.in_default.is))
+returns-in_err-seats c =
+    let none : size_of c.args.t.now ≡ None = grind arith in
+    let why : c.in_err-seats.field-0.0 ≡ Size = grind arith in
+    let p = err_from_is_err_and c.from_residual.result c.from_residual.ensures.1 in
+    rw (p.1, p.2, why, illegal _ none)
 
-pub overflow_cast-a : goal.overflow_cast-a
-overflow_cast-a c = let t = (told (goal.at.overflow_cast-a c).In-Is).1 in omega arith
+pub overflow_cast-seats : goal.overflow_cast-seats
+overflow_cast-seats c =
+    let size : size_of c.args.t.now ≡ Some c.in_ok-seats.seats = grind arith in
+    let t = (told_seats _ _ size).1 in omega arith
 
 pub first_seat-first-requires : goal.first_seat-first-requires
-first_seat-first-requires c = (told (goal.at.first_seat-first-requires c).In-Is).1.some
+first_seat-first-requires c =
+    let size : size_of c.args.t.now ≡ Some c.in_ok-seats.seats = grind arith in
+    (told_seats _ _ size).1.some
 
-pub lend-requires : goal.lend-requires
-lend-requires c = let t = (told (goal.at.lend-requires c).In-Is).1 in omega arith
-
-pub lend-requires-2 : goal.lend-requires-2
-lend-requires-2 c = let t = (told (goal.at.lend-requires-2 c).In-Is).1 in omega arith
+pub invariant_of-run : goal.invariant_of-run
+invariant_of-run c =
+    let size : size_of c.args.t.now ≡ Some c.in_ok-seats.seats = grind arith in
+    record { shape = (told_seats _ _ size).1.shape }
 
 pub look_up-requires : goal.look_up-requires
 look_up-requires c =
-    let t = (told (goal.at.look_up-requires c).In-Is).1 in
+    let size : size_of c.args.t.now ≡ Some c.in_ok-seats.seats = grind arith in
+    let t = (told_seats _ _ size).1 in
     omega (arith, mod-lt (output 1 c.args.key) t.some)
 
-pub returns-in_default-look_up : goal.returns-in_default-look_up
-returns-in_default-look_up c = sym (led (goal.at.returns-in_default-look_up c).After-look_up _ c.in_default-look_up.is)
-
-pub get_s-server-requires : goal.get_s-server-requires
-get_s-server-requires c =
-    let t = (told (goal.at.get_s-server-requires c).In-Is).1 in
-    (t.shape, omega (arith, rw c.in-At.is at c.look_up.ensures.within))
+pub returns-in_err-drawn : goal.returns-in_err-drawn
+returns-in_err-drawn c =
+    let size : size_of c.args.t.now ≡ Some c.in_ok-seats.seats = grind arith in
+    let none : c.look_up.result ≡ None = grind arith in
+    let why : c.in_err-drawn.field-0.0 ≡ Damaged = grind arith in
+    let p = err_from_is_err_and c.from_residual-in_err-drawn.result c.from_residual-in_err-drawn.ensures.1 in
+    rw (p.1, p.2, why) (rw none at (led c.args.t.now size c.part.ensures.0 c.part-2.ensures.0 c.first_seat-first.ensures c.look_up.ensures))
 
 pub returns-then-vacant : goal.returns-then-vacant
 returns-then-vacant c =
-    sym (led (goal.at.returns-then-vacant c).After-look_up _ c.in-At.is ∙ rw (← c.get_s-server.ensures, c.if-vacant.true))
+    let size : size_of c.args.t.now ≡ Some c.in_ok-seats.seats = grind arith in
+    let one : c.look_up.result ≡ Some c.in_ok-drawn.drawn = grind arith in
+    rw (one, ← c.get-server.ensures, c.if-vacant.true) at (led c.args.t.now size c.part.ensures.0 c.part-2.ensures.0 c.first_seat-first.ensures c.look_up.ensures)
 
 pub returns : goal.returns
 returns c =
-    sym (led (goal.at.returns c).After-look_up _ c.in-At.is ∙ rw (← c.get_s-server.ensures, ne_eqb _ _ c.if-vacant.false))
+    let size : size_of c.args.t.now ≡ Some c.in_ok-seats.seats = grind arith in
+    let one : c.look_up.result ≡ Some c.in_ok-drawn.drawn = grind arith in
+    rw (one, ← c.get-server.ensures, ne_eqb _ _ c.if-vacant.false) at (led c.args.t.now size c.part.ensures.0 c.part-2.ensures.0 c.first_seat-first.ensures c.look_up.ensures)

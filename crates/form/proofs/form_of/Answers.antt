@@ -6,4 +6,4 @@ use Rattle.form.proofs.form_of.Goals as goal
 
 pub returns : goal.returns
 returns c =
-    form_told _ _ (λ i. omega (arith, c.shared_slice_known-1.given i)) (λ none f. rw (← one f) none) _ c.form_in.ensures
+    form_told _ _ (λ i. omega (arith, c.type_inv.s i)) (λ none f. rw (← one f) none) _ c.form_in.ensures

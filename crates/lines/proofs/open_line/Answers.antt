@@ -1,39 +1,25 @@
 -- `lines::open_line` meets its contract. The loop's invariant: the ids read so far, before those of the rest, are all ids.
-use Rattle.promises.proofs.Prelude.{◌≡◌, sym, arith, drop, length-drop, rules}
-use Rattle.decimals.specs.Decimal.{got}
-use Rattle.lines.specs.Lines.{next, most_id}
+use Rattle.promises.proofs.Prelude.{sym, ◌<◌, ◌∙◌, length, arith}
+use Rattle.lines.specs.Lines.{most_id}
 use Rattle.lines.proofs.Words.{next_got}
-use Rattle.lines.proofs.Listing.{listing_more, listing_ends, listing_breaks}
+use Rattle.lines.proofs.Listing.{some_left, listing_none, listing_more, listing_ends, listing_breaks}
 use Rattle.lines.proofs.open_line.Goals as goal
-use Rattle.lines.proofs.open_line.Goals.{In-Is, In-Is-next}
+use Rattle.lines.proofs.open_line.Goals.{In-loop-c}
 
--- a, and what is left behind it
-first : (c : In-Is) →
-    let s = c.args in
-    got c.in-Is.a (drop c.in-Is.c.at s.s.now) ≡ next most_id (drop s.c.at s.s.now)
-first c = rw c.in-Is.is at c.next.ensures
+more : (c : In-loop-c) → 0 < length c.loop-c.c.rest.now
+more c = some_left _ (sym c.is_empty.ensures ∙ c.loop-c-test.true)
 
--- an id, and what is left behind it
-id : (c : In-Is-next) →
-    let s = c.args.s.now in
-    got c.in-Is-next.id (drop c.in-Is-next.c.at s) ≡ next most_id (drop c.loop-at.at s)
-id c = rw c.in-Is-next.is at c.next-in-loop-at.ensures
+pub loop-c-init : goal.loop-c-init
+loop-c-init c = listing_none _ _ (omega (arith, (next_got most_id _ (omega arith) (sym c.in-Some.ensures)).shorter))
 
-pub returns-in_default-next : goal.returns-in_default-next
-returns-in_default-next c =
-    listing_breaks c.loop-at.invariant _ (first (goal.at.returns-in_default-next c).In-Is) (search rules) (rw c.in_default-next.is at c.next-in-loop-at.ensures)
+pub returns-in_default-next_id : goal.returns-in_default-next_id
+returns-in_default-next_id c = listing_breaks c.loop-c.invariant _ c.in-Some.ensures (more (goal.at.returns-in_default-next_id c).In-loop-c) c.in_default-next_id.ensures
 
-pub overflow_cast-into : goal.overflow_cast-into
-overflow_cast-into c = omega (arith, (next_got most_id _ (omega arith) (sym (id c))).most)
+pub loop-c-smaller : goal.loop-c-smaller
+loop-c-smaller c = omega (arith, (next_got most_id _ (omega arith) (sym c.in-Some-next_id.ensures)).shorter)
 
-pub loop-at-smaller : goal.loop-at-smaller
-loop-at-smaller c = omega (arith, simp length-drop at (next_got most_id _ (omega arith) (sym (id c))).shorter)
-
-pub loop-at-preserved : goal.loop-at-preserved
-loop-at-preserved c = listing_more c.loop-at.invariant (search rules) _ _ (id c)
-
-pub overflow_cast-result : goal.overflow_cast-result
-overflow_cast-result c = omega (arith, (next_got most_id _ (omega arith) (sym (first (goal.at.overflow_cast-result c).In-Is))).most)
+pub loop-c-preserved : goal.loop-c-preserved
+loop-c-preserved c = listing_more c.loop-c.invariant (more (goal.at.loop-c-preserved c).In-loop-c) _ _ c.in-Some-next_id.ensures
 
 pub returns : goal.returns
-returns c = listing_ends c.loop-at.invariant _ (first (goal.at.returns c).In-Is) (search rules)
+returns c = listing_ends c.loop-c.invariant _ c.in-Some.ensures (sym c.is_empty.ensures ∙ c.loop-c-test.false)

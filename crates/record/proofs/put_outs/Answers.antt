@@ -1,5 +1,5 @@
--- `record::put_outs` meets its contract. The loop's invariant: the records of the first i entries are put.
-use Rattle.promises.proofs.Prelude.{arith, rules}
+-- `record::put_outs` meets its contract: the record of each entry ends where the next begins.
+use Rattle.promises.proofs.Prelude.{arith}
 use Rattle.rules.specs.Table.{table_for}
 use Rattle.saved.specs.Record.{removal_record}
 use Rattle.fields.specs.Form.{out_at}
@@ -9,18 +9,15 @@ use Rattle.saved.proofs.Holds.{removals_end}
 use Rattle.record.proofs.put_outs.Goals as goal
 
 pub out_at-requires : goal.out_at-requires
-out_at-requires c = let s = c.args in omega (arith, out_within s.f c.loop-i.i s.m (omega arith))
+out_at-requires c = omega (arith, out_within c.args.f c.loop-i.i c.args.m (omega arith))
 
 pub put_out-requires : goal.put_out-requires
 put_out-requires c =
-    omega (arith, c.requires, c.loop-i.invariant, out_within c.args.f c.loop-i.i c.args.m (omega arith))
+    omega (arith, c.requires, out_within c.args.f c.loop-i.i c.args.m (omega arith))
 
 pub loop-i-preserved : goal.loop-i-preserved
 loop-i-preserved c =
     let f = c.args.f in
-    let T = table_for c.args.a c.args.t.now in (
-      search rules,
-      search rules,
-      put_next c.args.out.now (out_at f 0) (removal_record f T) c.loop-i.i (removals_end f T c.loop-i.i) c.loop-i.invariant.2
-          (rw (c.get_r.ensures, c.out_at.ensures) at c.put_out.ensures),
-    )
+    let T = table_for c.args.run.now.seats c.args.run.now.words.now in
+    put_next c.args.out.now (out_at f 0) (removal_record f T) c.loop-i.i (removals_end f T c.loop-i.i) c.loop-i.invariant
+    (rw (c.get.ensures, c.out_at.ensures) at c.put_out.ensures)

@@ -1,14 +1,22 @@
 -- `transcript::run` meets its contract: too long an input is refused, another is answered line by line.
-use Rattle.promises.proofs.Prelude.{length, rules, le-ltb, lt-ltb}
+use Rattle.promises.proofs.Prelude.{refl, arith, length, le-ltb, lt-ltb}
 use Rattle.transcript.specs.Transcript.{most_input, transcript}
-use Rattle.transcript.proofs.Turns.{put_written}
+use Rattle.transcript.specs.Written.{Written}
+use Rattle.transcript.proofs.Turns.{adds_written, written_counts}
 use Rattle.transcript.proofs.run.Goals as goal
+use Rattle.transcript.proofs.run.Goals.{Joined-is_long, then-is_long, else-is_long}
 
-pub returns-then-input-gt-MOST_INPUT-clause-written : goal.returns-then-input-gt-MOST_INPUT-clause-written
+written : (c : Joined-is_long) →
+    let out = c.if-is_long.output in
+    Written (transcript c.args.input.now) c.args.out.now (out.len, out.bytes.now)
 unfolding transcript
-returns-then-input-gt-MOST_INPUT-clause-written c =
-    rw (lt-ltb most_input (length c.args.input.now) (search rules)) (put_written c.put_reply.ensures.put)
+written c = elim c.if-is_long.branch [
+  | then-is_long w ↦ rw (w.output-is, lt-ltb most_input (length c.args.input.now) (omega arith)) (adds_written refl w.put_reply.ensures.adds)
+  | else-is_long w ↦ rw (w.output-is, le-ltb most_input (length c.args.input.now) (omega arith)) (adds_written refl w.put_replies.ensures)
+]
 
 pub returns-clause-written : goal.returns-clause-written
-unfolding transcript
-returns-clause-written c = rw (le-ltb most_input (length c.args.input.now) (search rules)) c.run_lines.ensures
+returns-clause-written c = written (goal.at.returns-clause-written c).Joined-is_long
+
+pub returns-clause-prefix_len : goal.returns-clause-prefix_len
+returns-clause-prefix_len c = written_counts (written (goal.at.returns-clause-prefix_len c).Joined-is_long)

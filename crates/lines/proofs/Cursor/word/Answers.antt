@@ -1,32 +1,42 @@
 -- `Cursor::word` meets its contract: it tries the four words in their order.
-use Rattle.promises.proofs.Prelude.{drop-drop}
-use Rattle.lines.specs.Lines.{command_of}
+use Rattle.lines.specs.Lines.{open_word, seat_word, out_word, find_word, command_of}
 use Rattle.lines.specs.Readings.{ids_read}
+use Rattle.lines.proofs.Words.{starts_pointwise}
 use Rattle.lines.proofs.Cursor.word.Goals as goal
 
-pub returns-then-starts_with : goal.returns-then-starts_with
+pub returns-in-Some-clause-read : goal.returns-in-Some-clause-read
 unfolding command_of ids_read
-returns-then-starts_with c = rw (← c.starts_with.ensures, c.if-starts_with.true, ← drop-drop 4)
+returns-in-Some-clause-read c =
+    let s = c.args.self.rest.now in
+    let found = c.in-Some.ensures.cases in
+    rw (starts_pointwise open_word s, found.0, found.1)
 
-pub returns-then-starts_with-2 : goal.returns-then-starts_with-2
+pub returns-in-Some-strip_prefix-clause-read : goal.returns-in-Some-strip_prefix-clause-read
 unfolding command_of ids_read
-returns-then-starts_with-2 c =
-    rw (← c.starts_with.ensures, c.if-starts_with.false, ← c.starts_with-2.ensures, c.if-starts_with-2.true, ← drop-drop 4)
+returns-in-Some-strip_prefix-clause-read c =
+    let s = c.args.self.rest.now in
+    let found = c.in-Some-strip_prefix.ensures.cases in
+    rw (starts_pointwise open_word s, c.in_default.ensures.cases, starts_pointwise seat_word s, found.0, found.1)
 
-pub returns-then-starts_with-3 : goal.returns-then-starts_with-3
+pub returns-in-Some-strip_prefix-2-clause-read : goal.returns-in-Some-strip_prefix-2-clause-read
 unfolding command_of ids_read
-returns-then-starts_with-3 c =
-    rw (← c.starts_with.ensures, c.if-starts_with.false, ← c.starts_with-2.ensures, c.if-starts_with-2.false)
-    (rw (← c.starts_with-3.ensures, c.if-starts_with-3.true, ← drop-drop 3))
+returns-in-Some-strip_prefix-2-clause-read c =
+    let s = c.args.self.rest.now in
+    let found = c.in-Some-strip_prefix-2.ensures.cases in
+    rw (starts_pointwise open_word s, c.in_default.ensures.cases, starts_pointwise seat_word s, c.in_default-strip_prefix.ensures.cases)
+    (rw (starts_pointwise out_word s, found.0, found.1))
 
-pub returns-then-starts_with-4 : goal.returns-then-starts_with-4
+pub returns-in-Some-strip_prefix-3-clause-read : goal.returns-in-Some-strip_prefix-3-clause-read
 unfolding command_of ids_read
-returns-then-starts_with-4 c =
-    rw (← c.starts_with.ensures, c.if-starts_with.false, ← c.starts_with-2.ensures, c.if-starts_with-2.false)
-    (rw (← c.starts_with-3.ensures, c.if-starts_with-3.false, ← c.starts_with-4.ensures, c.if-starts_with-4.true, ← drop-drop 4))
+returns-in-Some-strip_prefix-3-clause-read c =
+    let s = c.args.self.rest.now in
+    let found = c.in-Some-strip_prefix-3.ensures.cases in
+    rw (starts_pointwise open_word s, c.in_default.ensures.cases, starts_pointwise seat_word s, c.in_default-strip_prefix.ensures.cases)
+    (rw (starts_pointwise out_word s, c.in_default-strip_prefix-2.ensures.cases, starts_pointwise find_word s, found.0, found.1))
 
-pub returns : goal.returns
+pub returns-clause-read : goal.returns-clause-read
 unfolding command_of ids_read
-returns c =
-    rw (← c.starts_with.ensures, c.if-starts_with.false, ← c.starts_with-2.ensures, c.if-starts_with-2.false)
-    (rw (← c.starts_with-3.ensures, c.if-starts_with-3.false, ← c.starts_with-4.ensures, c.if-starts_with-4.false))
+returns-clause-read c =
+    let s = c.args.self.rest.now in
+    rw (starts_pointwise open_word s, c.in_default.ensures.cases, starts_pointwise seat_word s, c.in_default-strip_prefix.ensures.cases)
+    (rw (starts_pointwise out_word s, c.in_default-strip_prefix-2.ensures.cases, starts_pointwise find_word s, c.in_default-strip_prefix-3.ensures.cases))

@@ -1,0 +1,2 @@
+-- What serves the proofs.
+pub mod Steps
