@@ -104,19 +104,19 @@ impl Pass<'_> {
     }
 
     // Is i right, as a seat and as an entry of R? The line of all a seats has b at b, so i counts its seats and its positions.
-    fn index_passes(&self, i: usize) -> bool
+    fn index_passes(&self, i: u32) -> bool
         requires { i < self.now.run.seats }
         ensures { Decides result (IndexPasses (table_in self.now) i) }
     {
-        self.seat_passes(Seat(i as u32), Position(i as u32)) & self.removal_passes(i)
+        self.seat_passes(Seat(i), Position(i)) & self.removal_passes(i as usize)
     }
 
-    // A, K, W, L and R, each index, with no way out of the loop.
+    // A, K, W, L and R, each index, with no way out of the loop. The index is as wide as a seat: by a wider one the compiler carries both.
     fn all_pass(&self) -> bool
         ensures { Decides result (AllPass (table_in self.now) self.now.run.seats) }
     {
         let mut ok = true;
-        for i in 0..self.run.seats {
+        for i in 0..self.run.seats as u32 {
             ok &= self.index_passes(i);
         }
         ok

@@ -106,7 +106,7 @@ pub fn has_mark(s: &[u8], at: usize, mark: &[u8; MARK]) -> bool
     requires { at + mark_length ≤ length s.now }
     ensures { Decides result (Stands s.now at mark.now) }
 {
-    s[at..].starts_with(mark)
+    s[at..at + MARK].starts_with(mark)
 }
 
 // From the last byte to the first: each is the remainder of what is left. (std's bytes are as many as a type has; here the width is a parameter.) By an index: no contract says what `iter_mut().rev()` leaves.

@@ -7,7 +7,7 @@ ghost use Rattle.rules.specs.Changes.{opened, open_bare};
 ghost use Rattle.steps.specs.Steps.{Keeps};
 ghost use Rattle.layout.specs.Layout.{Filled, Lays};
 
-use parts::{A, K, L, Part, R, S, SEATS, USED, W, start};
+use parts::{A, K, L, Part, R, S, W, start};
 use steps::RunMut;
 
 // Each word of a part, from its index, and by it: no contract says what an adapter of `iter_mut` leaves.
@@ -37,8 +37,8 @@ pub fn lay_bare(run: &mut RunMut<'_>, w: usize)
     ensures keeps { Keeps run.old run.new }
 {
     let a = run.seats;
-    run.words[SEATS] = a as u32;
-    run.words[USED] = w as u32;
+    run.set_seats();
+    run.set_used(w as u32);
     lay::<A, _>(run, |b| if b < w { 0 } else { b as u32 });
     lay::<K, _>(run, |b| b as u32);
     lay::<W, _>(run, |p| p as u32);

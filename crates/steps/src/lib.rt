@@ -6,7 +6,7 @@ ghost use Rattle.rules.specs.Table.{◌!◌, base, table_for};
 ghost use Rattle.rules.specs.Runs.{Shape};
 ghost use Rattle.parts.specs.Shape.{Lent, IsWord};
 
-use parts::{Index, L, Part, Run, USED, Word, start};
+use parts::{Index, L, Part, Run, SEATS, USED, Word, start};
 use rules::{Position, Seat};
 
 // The one store: word i of what is lent becomes x.
@@ -57,12 +57,19 @@ impl RunMut<'_> {
         run.get::<P>(i)
     }
 
-    // Word 1 becomes n.
+    // The words before the parts: word 0 becomes the run's seats, word 1 becomes n.
+    pub fn set_seats(&mut self)
+        ensures words { self.new.words.now ≡ set self.old.words.now 0 self.old.seats }
+        ensures keeps { Keeps self.old self.new }
+    {
+        store(self.words, SEATS, self.seats as u32);
+    }
+
     pub fn set_used(&mut self, n: u32)
         ensures words { self.new.words.now ≡ set self.old.words.now 1 n }
         ensures keeps { Keeps self.old self.new }
     {
-        self.words[USED] = n;
+        store(self.words, USED, n);
     }
 
     pub fn put<P: Part>(&mut self, i: P::Index, x: P::Item)

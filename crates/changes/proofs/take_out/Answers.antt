@@ -1,7 +1,7 @@
 -- `changes::take_out` meets its contract: each way out is the first refusal that applies, or there is none.
 use Rattle.std.specs.Prelude.{Option, Some, None}
 use Rattle.std.proofs.lemmas.Result.{err_from_is_err_and}
-use Rattle.promises.proofs.Prelude.{◌≡◌, ◌∙◌, sym, ap, not, true, List, [], ◌∷◌, ℕ, arith, cond, eq-eqb, ne_eqb, rules}
+use Rattle.promises.proofs.Prelude.{◌≡◌, ◌∙◌, sym, ap, ◌≢◌, not, true, List, [], ◌∷◌, ℕ, arith, cond, eq-eqb, ne_eqb, rules}
 use Rattle.rules.specs.Table.{◌!◌, words, table_of}
 use Rattle.rules.specs.Changes.{take_out}
 use Rattle.rules.specs.Ids.{occurs, place_of}
@@ -14,10 +14,15 @@ use Rattle.audit.proofs.Told.{audited}
 use Rattle.changes.proofs.Ready.{long, tested, place_below, leaving}
 use Rattle.changes.proofs.Told.{out_refused, out_first, out_done}
 use Rattle.changes.proofs.take_out.Goals as goal
+use Rattle.changes.proofs.take_out.Goals.{Else-alone}
 
 -- the id is seated, and where
 seated : (id : ℕ) {place : ℕ} {l S : List ℕ} {r : Option ℕ} → l ≡ S → r ≡ cond (occurs id l) (Some (place_of id l)) None → r ≡ Some place → (occurs id S ≡ true) × (place_of id S ≡ place)
 seated id e h p = rw e at (one_there _ _ (sym h ∙ p))
+
+-- it is not the last one
+other : (c : Else-alone) → c.args.t.now ! 1 ≢ 1
+other c z = omega (arith, z, c.if-alone.false)
 
 pub returns-in_err-audit_table : goal.returns-in_err-audit_table
 returns-in_err-audit_table c =
@@ -60,7 +65,7 @@ take_out_seat-requires c =
     let s = audited c.audit_table.ensures c.in_ok-audit_table.was in
     let found : c.find_in.result ≡ Some c.in_ok-place.place = grind arith in
     let there = seated c.args.id c.part.ensures.0 c.find_in.ensures found in
-    (sound_legal s, tested _ s, rw there.1 at (leaving _ s _ c.if-id-eq0.false there.0 (λ z. omega (arith, z, c.if-alone.false))))
+    (sound_legal s, tested _ s, rw there.1 at (leaving _ s _ c.if-id-eq0.false there.0 (other (goal.at.take_out_seat-requires c).Else-alone)))
 
 pub returns : goal.returns
 returns c =
@@ -68,7 +73,7 @@ returns c =
     let there = seated c.args.id c.part.ensures.0 c.find_in.ensures found in
     let takes =
     out_done (audited c.audit_table.ensures c.in_ok-audit_table.was) c.args.id
-    (more (ne_eqb _ 0 c.if-id-eq0.false) (more (ap not there.0) (more (ne_eqb _ 1 (λ z. omega (arith, z, c.if-alone.false))) none))) in
+    (more (ne_eqb _ 0 c.if-id-eq0.false) (more (ap not there.0) (more (ne_eqb _ 1 (other (goal.at.returns c).Else-alone)) none))) in
     let back : _ ≡ c.take_out_seat.new.run.words.now = search rules in
     ap (λ (w : List ℕ). done (c.in_ok-place.place ∷ []) w) (back ∙ c.take_out_seat.ensures.words)
     ∙ ap (λ (b : ℕ). done (b ∷ []) (words (take_out (table_of c.args.t.now) b))) (sym there.1)

@@ -1,5 +1,5 @@
 -- `layout::lay_out` meets its contract: the ids stand in S last.
-use Rattle.promises.proofs.Prelude.{length, rules}
+use Rattle.promises.proofs.Prelude.{rules}
 use Rattle.rules.specs.Table.{part}
 use Rattle.rules.specs.Changes.{open_s}
 use Rattle.rules.proofs.Openings.{length_open_s, open_s_in, open_s_out}
